@@ -1,0 +1,53 @@
+use super::*;
+use std::test::Fail;
+
+#[test]
+fn sizes_round_up_to_whole_units(rt: HostRuntime) -> Result<(), Fail> {
+    let rows = [
+        (1, 12, Ok(1)),
+        (4096, 12, Ok(1)),
+        (4097, 12, Ok(2)),
+        (16_777_216, 9, Ok(32_768)),
+        (0, 12, Err(BadSize)),
+        (16_777_217, 12, Err(BadSize)),
+    ];
+    for (size, ashift, want) in rows {
+        assert!(rt; 9 <= ashift && ashift <= 12);
+        assert_eq!(rt; units_of(size, ashift), want, "for {size} bytes");
+    }
+    assert_eq!(rt;
+        format!(in rt.alloc(); "{BadSize}")?.as_str(),
+        "size is not 1 to 16777216 bytes"
+    );
+    assert_eq!(rt; format!(in rt.alloc(); "{}", Group(7))?.as_str(), "7");
+    Ok(())
+}
+
+#[test]
+fn lists_give_back_what_they_hold(rt: HostRuntime) -> Result<(), Fail> {
+    let alloc = rt.alloc();
+    let none: Items<u8> = Items::new(alloc);
+    assert!(rt; none.is_empty());
+    let items = Items::from_vec(vec![in alloc; 4u8, 5]?);
+    assert_eq!(rt; items.len(), 2);
+    assert_eq!(rt; items.as_slice(), [4, 5].as_slice());
+    assert_eq!(rt; items.into_vec().as_slice(), [4, 5].as_slice());
+
+    let text = Text::from_string(format!(in alloc; "one")?);
+    assert_eq!(rt; text.as_str(), "one");
+    assert_eq!(rt; text.into_string().as_str(), "one");
+
+    let mut copies = Copies::new(alloc);
+    for vdev in 0..3u8 {
+        assert!(rt; copies.len() < 3);
+        copies.push(Dva {
+            class: Class::Special,
+            vdev,
+            offset: 512,
+            size: 4096,
+        });
+    }
+    assert_eq!(rt; copies.len(), 3);
+    assert_eq!(rt; copies.as_slice()[1].vdev, 1);
+    Ok(())
+}
