@@ -1,0 +1,6 @@
+pub mod Notes
+pub mod Steps
+pub mod Known
+pub mod Lanes
+pub mod Rule
+pub mod Moves
