@@ -1,0 +1,13 @@
+pub mod Origin
+pub mod Units
+pub mod Spaces
+pub mod Runs
+pub mod Gains
+pub mod Legal
+pub mod Counts
+pub mod Steps
+pub mod Parts
+pub mod Gates
+pub mod Events
+pub mod Laws
+pub mod Places

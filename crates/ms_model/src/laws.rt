@@ -1,0 +1,64 @@
+//! Laws of the definitions: each function does nothing, and its contract is the law.
+
+ghost use Rattle.ms_model.specs.Laws.{GrantsOverlapNothing, WorkOverlapsNothing, StatesAreApart, TotalsAddUp, BeginningsAreLegal, GroupsAddUp};
+ghost use Rattle.ms_model.specs.Places.{LaneNotesAreItsSteps, GateNotesAreItsSteps, PlacesNeverFall, GatePlacesNeverFall, PlacesAreWithin, GatePlacesAreWithin, OpenGroupCountsClosings, OpenGroupNeverFalls, OpenGroupIsWithin};
+
+/// In a legal history no unit of a grant is live, deferred, or held by a group that may still be opened.
+pub fn grants_overlap_nothing()
+    ensures { GrantsOverlapNothing }
+{}
+
+/// The same of each segment that a worker takes.
+pub fn work_overlaps_nothing()
+    ensures { WorkOverlapsNothing }
+{}
+
+/// Each unit is exactly one of live, deferred and vacant.
+pub fn states_are_apart()
+    ensures { StatesAreApart }
+{}
+
+/// So the three totals add up to the metaslab's units.
+pub fn totals_add_up()
+    ensures { TotalsAddUp }
+{}
+
+/// What stands before a note of a legal history is a legal history.
+pub fn beginnings_are_legal()
+    ensures { BeginningsAreLegal }
+{}
+
+/// What a group holds is what the one before it held, with what it gained and without what it gave back.
+pub fn groups_add_up()
+    ensures { GroupsAddUp }
+{}
+
+/// A lane's notes in a journal are those of its steps, in order.
+pub fn lane_notes_are_its_steps()
+    ensures metaslab { LaneNotesAreItsSteps }
+    ensures gate { GateNotesAreItsSteps }
+{}
+
+/// A later step of a lane stands at a later place, after the earlier step's note.
+pub fn places_never_fall()
+    ensures metaslab { PlacesNeverFall }
+    ensures gate { GatePlacesNeverFall }
+{}
+
+/// The place of a step is a beginning of the journal that holds all of the lane's earlier notes and none of the later.
+pub fn places_are_within()
+    ensures metaslab { PlacesAreWithin }
+    ensures gate { GatePlacesAreWithin }
+{}
+
+/// The open group is one above the opened one, and rises by one with each closing.
+pub fn open_group_counts_closings()
+    ensures { OpenGroupCountsClosings }
+{}
+
+/// From one place of a lane to a later one the open group never falls, and it is above each group that the lane closed
+/// between.
+pub fn open_group_never_falls()
+    ensures between { OpenGroupNeverFalls }
+    ensures within { OpenGroupIsWithin }
+{}
