@@ -1,0 +1,13 @@
+pub mod Covering
+pub mod Keeping
+pub mod Moments
+pub mod Piecewise
+pub mod Ranging
+pub mod Reading
+pub mod Recording
+pub mod Replay
+pub mod Resting
+pub mod Sparing
+pub mod Stopping
+pub mod Told
+pub mod Writing

@@ -1,0 +1,18 @@
+use Rattle.std.proofs.Common.{◌∙◌, arith}
+use Rattle.zms_dev.specs.Stream.{told}
+use Rattle.zms_dev.proofs.Piecewise.{moves_more, added_more}
+use Rattle.zms_dev.proofs.texts.read_pieces.Goals as goal
+
+pub loop-taken-preserved : goal.loop-taken-preserved
+loop-taken-preserved g c =
+    let was = c.loop-taken.invariant in
+    record {
+      within = omega (arith, was.within, c.in_ok-n.ensures.bound, c.loop-taken-test.true);
+      moves = λ tells.
+          moves_more (told (g.S.Source.left c.args.source.now)) (told (g.S.Source.left c.loop-taken.source)) (told (g.S.Source.left c.read_piece.new.source))
+          c.args.into.now.items c.loop-taken.into.items c.read_piece.new.into.items c.loop-taken.taken c.in_ok-n.n
+          (was.moves tells) (c.in_ok-n.ensures.moves (was.kind ∙ tells));
+      appends = added_more c.args.into.now.items c.loop-taken.into.items c.read_piece.new.into.items c.loop-taken.taken c.in_ok-n.n was.appends c.in_ok-n.ensures.appends;
+      kind = c.in_ok-n.ensures.kind ∙ was.kind;
+      later = omega (arith, was.later, c.in_ok-n.ensures.later);
+    }

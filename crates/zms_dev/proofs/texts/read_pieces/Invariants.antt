@@ -1,0 +1,16 @@
+use Rattle.std.proofs.Common.{◌≡◌, ◌-◌, ℕ, ◌≤◌, List, ◌++◌, length}
+use Rattle.std.specs.Prelude.{IsSome, is_some}
+use Rattle.zms_dev.specs.Stream.{told, Moves}
+use Rattle.zms_dev.proofs.texts.read_pieces.Given as goal
+
+abbrev pub invariant-loop-taken : goal.invariant-loop-taken
+invariant-loop-taken g l = record {
+  within : l.taken ≤ l.most;
+  moves : IsSome (g.S.Source.left l.fn.source) → Moves (told (g.S.Source.left l.fn.source)) (told (g.S.Source.left l.source)) l.fn.into.items l.into.items l.taken;
+  appends : (more : List ℕ) × (length more ≡ l.taken) × (l.into.items ≡ l.fn.into.items ++ more);
+  kind : is_some (g.S.Source.left l.source) ≡ is_some (g.S.Source.left l.fn.source);
+  later : g.S.Source.faults l.fn.source ≤ g.S.Source.faults l.source;
+}
+
+abbrev pub decreases-loop-taken : goal.decreases-loop-taken
+decreases-loop-taken g l = l.most - l.taken

@@ -1,0 +1,14 @@
+pub mod Bytes
+pub mod Causes
+pub mod Data
+pub mod Disk
+pub mod History
+pub mod HistoryLaws
+pub mod Memory
+pub mod MemoryDisk
+pub mod MemoryInside
+pub mod Ranges
+pub mod Runs
+pub mod Script
+pub mod Stop
+pub mod Stream

@@ -1,0 +1,19 @@
+-- What is read from a source and written to a sink.
+use Rattle.std.specs.Prelude.{◌≡◌, ℕ, ◌<◌, ◌≤◌, List, [], ◌++◌, [], length, take, drop, Option, unwrap_or}
+
+-- the bytes that an object tells, or none where it tells nothing
+abbrev pub told : Option (List ℕ) → List ℕ
+told bytes = unwrap_or bytes []
+
+-- a read took n bytes off the front into the buffer, and none only at the end
+pub record Takes (before after buf : List ℕ) (n : ℕ) : Type 0 where
+  pub enough : n ≤ length before
+  pub front : take n buf ≡ take n before
+  pub rest : after ≡ drop n before
+  pub ended : n ≡ 0 → 0 < length buf → before ≡ []
+
+-- n bytes went off the front of a source to the end of a text
+pub record Moves (before after old new : List ℕ) (n : ℕ) : Type 0 where
+  pub enough : n ≤ length before
+  pub text : new ≡ old ++ take n before
+  pub rest : after ≡ drop n before
