@@ -1,0 +1,10 @@
+pub mod UnitTests
+pub mod ApartRuns
+pub mod RisingSegs
+pub mod Counting
+pub mod Fits
+pub mod Granting
+pub mod Gathering
+pub mod Gapping
+pub mod Journals
+pub mod Keeping

@@ -1,0 +1,4 @@
+pub mod Apart
+pub mod State
+pub mod Buffers
+pub mod Kept
