@@ -1,0 +1,171 @@
+-- How lanes end, from what they did to what is shipped.
+use Rattle.std.proofs.Common.{◌≡◌, ℕ, ◌≤◌, Bool, true, false, Option, Some, None, List, [], ◌∷◌, length, zero, suc, refl, sym, ◌∙◌, ap, subst, arith}
+use Rattle.std.specs.Prelude.{slice_get, IsSome, ◌||◌}
+use Rattle.std.specs.List.{fold}
+use Rattle.zms_units.specs.declared.faults.First.{First}
+use Rattle.ms_model.specs.Origin.{Origin}
+use Rattle.ms_model.specs.Units.{settled_group}
+use Rattle.ms_model.specs.Legal.{IsLegal}
+use Rattle.ms_model.specs.Counts.{units_in, live_units, deferred_units, vacant_units}
+use Rattle.ms_model.specs.Gates.{synced_group, IsGateLegal}
+use Rattle.ms_model.specs.Parts.{right_of, gate_right}
+use Rattle.ms_model.specs.Steps.{Follows}
+use Rattle.ms_model.specs.Events.{Event, metaslab_steps, gate_steps}
+use Rattle.ms_model.specs.declared.notes.Noted.{Noted}
+use Rattle.ms_model.specs.declared.journals.Journals.{Journals}
+use Rattle.ms_core.specs.State.{MsState, origin_of, settled_of, StaysButNotes}
+use Rattle.zms_dev.specs.Disk.{DiskState, Tells}
+use Rattle.zms_top.specs.Script.{IsFile}
+use Rattle.zms_top.specs.Answers.{Replied, paired, first_with, first_fault}
+use Rattle.zms_top.specs.Backing.{AreIntervals}
+use Rattle.zms_top.specs.Sound.{IsRecorded}
+use Rattle.zms_top.specs.Acting.{IsKept}
+use Rattle.zms_top.specs.Running.{HasRun, answers_of}
+use Rattle.zms_top.specs.Opening.{IsFresh}
+use Rattle.zms_top.specs.Ends.{any_device, is_device, IsOrigin, AreShipped, LanesDid, IsUnwritten, RunEnds, text_of}
+use Rattle.zms_top.specs.Shipping.{HandsOver, LanesEnd, Reports}
+use Rattle.zms_top.specs.declared.pool.Pool.{Pool}
+use Rattle.zms_top.specs.declared.script.Command.{Command}
+use Rattle.zms_top.specs.declared.replies.Answer.{Answer}
+use Rattle.zms_top.specs.declared.replies.Answer.TheVariants.{Granted, NoSpace, BadSize, Done, Device, Suspended}
+use Rattle.zms_top.specs.declared.replies.Reply.{Reply}
+use Rattle.zms_top.specs.declared.status.RunLists.{RunLists}
+use Rattle.zms_top.specs.declared.status.Status.{Status}
+use Rattle.zms_top.proofs.RunLemmas.{widen}
+
+-- what is shipped is of the pool that was opened
+pub shipped_of : (p q : Pool) (replies : List Reply) (j : Journals) (l : RunLists) → IsFresh p → StaysButNotes p.metaslab q.metaslab → q.gate.opened ≡ p.gate.opened
+    → (handed : HandsOver q replies j l) → AreShipped (origin_of p.metaslab) j l handed.journal
+shipped_of p q replies j l fresh stays gate handed =
+    let origin : origin_of q.metaslab ≡ origin_of p.metaslab = ap origin_of stays in
+    let opened : q.gate.opened ≡ p.metaslab.opened = gate ∙ fresh.pool.opened in
+    let units : q.metaslab.units ≡ p.metaslab.units = ap (λ (m : MsState). m.units) stays in
+    let base : q.metaslab.base ≡ p.metaslab.base = ap (λ (m : MsState). m.base) stays in
+    record {
+      opened = handed.opened ∙ opened;
+      only = handed.only;
+      no_class = handed.no_class;
+      no_keeper = handed.no_keeper;
+      id = handed.id ∙ (ap (λ (m : MsState). m.id) stays ∙ fresh.id);
+      units = handed.units ∙ units;
+      ashift = handed.ashift ∙ ap (λ (m : MsState). m.ashift) stays;
+      held = handed.held ∙ ap (λ (o : Origin). units_in o.base o.units) origin;
+      legal = rw handed.notes (subst (λ (o : Origin). IsLegal o q.metaslab.notes) origin handed.legal);
+      gate_legal = rw handed.gate (subst (λ n. IsGateLegal n q.gate.notes) opened handed.gate_legal);
+      device_notes = handed.device_notes;
+    }
+
+-- no reply names a fault where none is kept
+
+first_some : (f : First) (rs : List Replied) → fold (λ so_far (r : Replied). first_with so_far r.reply.answer) (Some f) rs ≡ Some f
+first_some f [] = refl
+first_some f (r ∷ rs) = first_some f rs
+
+not_device : (a : Answer) → is_device a ≡ false → first_with None a ≡ None
+not_device (Granted _ _) e = refl
+not_device (NoSpace _) e = refl
+not_device BadSize e = refl
+not_device (Done _) e = refl
+not_device (Device _ _) e = cc
+not_device (Suspended _) e = refl
+
+false_or : (a b : Bool) → (a || b) ≡ false → (a ≡ false) × (b ≡ false)
+false_or true b e = cc
+false_or false b e = (refl, e)
+
+no_first : (cs : List Command) (rs : List Reply) → length cs ≡ length rs → any_device rs ≡ false → first_fault (paired cs rs) ≡ None
+no_first [] rs same none = refl
+no_first (c ∷ cs) [] same none = refl
+no_first (c ∷ cs) (r ∷ rs) same none =
+    let both = false_or (is_device r.answer) (any_device rs) none in
+    ap (λ f. fold (λ so_far (x : Replied). first_with so_far x.reply.answer) f (paired cs rs)) (not_device r.answer both.0) ∙ no_first cs rs (omega (arith, same)) both.1
+
+-- the lanes' facts over the journals that are shipped
+
+pub kept_recorded : (start now : DiskState) (o : Origin) (h : List Noted) → IsKept o [] h start now → IsRecorded start now o h
+kept_recorded start now o h kept = record {
+  tells = kept.tells;
+  untouched = λ e. kept.same e;
+  unchanged = λ e c may. kept.unchanged e c may;
+  stored = λ lt c may. kept.stored lt c may;
+}
+
+only_journal : (es : List Event) (n : List Noted) (k : ℕ) (h : List Noted) → Follows right_of 1 [] (metaslab_steps 0 es) n → slice_get (n ∷ []) k ≡ Some h → Follows right_of 1 [] (metaslab_steps k es) h
+only_journal es n zero h follows e = subst (λ l. Follows right_of 1 [] (metaslab_steps 0 es) l) (at_zero e) follows where
+  at_zero : {n h : List Noted} → Some n ≡ Some h → n ≡ h
+  at_zero e = cc
+only_journal es n (suc k) h follows e = cc
+
+-- the facts of a whole run, over what is shipped
+pub lanes_did : (p q : Pool) (commands : List Command) (replies : List Reply) (j : Journals) (l : RunLists) (before now : Option (List ℕ)) (sink_low sink_high : ℕ) (start end : DiskState) (low high : ℕ) (status : Status)
+    → IsFresh p → StaysButNotes p.metaslab q.metaslab → length replies ≡ length commands → HasRun p q (paired commands replies) → AreIntervals low high (answers_of replies)
+    → (Tells start → q.first ≡ None → IsKept (origin_of p.metaslab) p.metaslab.notes q.metaslab.notes start end)
+    → Reports q (paired commands replies) replies before now sink_low sink_high status → (handed : HandsOver q replies j l)
+    → LanesDid commands before now sink_low sink_high start end low high (origin_of p.metaslab) handed.journal l status
+lanes_did p q commands replies j l before now sink_low sink_high start end low high status fresh stays each run intervals kept report handed =
+    let o : Origin = origin_of p.metaslab in
+    let origin : origin_of q.metaslab ≡ o = ap origin_of stays in
+    let settled : settled_of q.metaslab ≡ settled_group o handed.journal.notes = ap (λ (x : Origin). settled_group x q.metaslab.notes) origin ∙ ap (settled_group o) (sym handed.notes) in
+    record {
+      each = rw handed.replies_are each;
+      backed = record {
+        events = run.events;
+        lines = rw handed.replies_are run.lines;
+        at_the_gate = rw handed.gate (subst (λ g. Follows gate_right 1 g (gate_steps run.events) q.gate.notes) fresh.gate run.tour.gate);
+        each = λ k h is. only_journal run.events handed.journal.notes k h (rw handed.notes (subst (λ n. Follows right_of 1 n (metaslab_steps 0 run.events) q.metaslab.notes) fresh.notes run.tour.metaslab)) is;
+      };
+      settled = rw (handed.gate, handed.notes) (subst (λ (x : Origin). synced_group x.opened q.gate.notes ≡ settled_group x q.metaslab.notes) origin run.pool.sound.synced);
+      intervals = rw handed.replies_are intervals;
+      tally = report.tally;
+      tally_is = record {
+        id = report.tally_is.id ∙ sym handed.id;
+        class = report.tally_is.class;
+        ashift = report.tally_is.ashift ∙ ap (λ (m : MsState). m.ashift) stays;
+        live = report.tally_is.live ∙ (ap (λ (x : Origin). live_units x q.metaslab.notes) origin ∙ ap (live_units o) (sym handed.notes));
+        deferred = report.tally_is.deferred ∙ (ap (λ (x : Origin). deferred_units x q.metaslab.notes) origin ∙ ap (deferred_units o) (sym handed.notes));
+        vacant = report.tally_is.vacant ∙ (ap (λ (x : Origin). vacant_units x q.metaslab.notes) origin ∙ ap (vacant_units o) (sym handed.notes));
+      };
+      group = report.group;
+      group_is = report.group_is ∙ settled;
+      printed = report.printed;
+      prints = rw handed.replies_are report.prints;
+      status_is = rw handed.replies_are report.status_is;
+      device = λ none tells.
+          let idle : q.first ≡ None = sym run.fault ∙ no_first commands replies (sym each) (rw handed.replies_are at none) in
+          let from_start = subst (λ n. IsKept o n q.metaslab.notes start end) fresh.notes (kept tells idle) in
+          rw handed.notes (kept_recorded start end o q.metaslab.notes from_start);
+    }
+
+recorded_from : (start mid now : DiskState) (o : Origin) (h : List Noted) → IsUnwritten start mid → IsRecorded mid now o h → IsRecorded start now o h
+recorded_from start mid now o h quiet recorded = record {
+  tells = recorded.tells;
+  untouched = λ e. recorded.untouched e ∙ quiet.same;
+  unchanged = λ e c may. quiet.unchanged c (recorded.unchanged e c may);
+  stored = recorded.stored;
+}
+
+-- a run is what its lanes were, behind a reading of the text and of the device
+pub run_ends : (left before now : Option (List ℕ)) (source_low source_high sink_low sink_high : ℕ) (start mid end : DiskState) (low between high : ℕ) (o : Origin) (commands : List Command)
+    (status : Status) (journals : Option Journals) (lists : Option RunLists)
+    → (IsSome left → IsFile (text_of left) commands) → IsOrigin start o → (Tells start → IsUnwritten start mid) → low ≤ between
+    → LanesEnd o commands before now sink_low sink_high mid end between high status journals lists
+    → RunEnds left before now source_low source_high sink_low sink_high start end low high status journals lists
+run_ends left before now source_low source_high sink_low sink_high start mid end low between high o commands status journals lists file origin quiet le (LanesEnd.cut_off journal j l shipped is out js ls) =
+    RunEnds.cut_off o journal j l origin shipped is out js ls
+run_ends left before now source_low source_high sink_low sink_high start mid end low between high o commands status journals lists file origin quiet le (LanesEnd.ran journal j l shipped did js ls) =
+    RunEnds.ran commands file o journal j l origin shipped
+    (record {
+      each = did.each;
+      backed = did.backed;
+      settled = did.settled;
+      intervals = widen low between high (answers_of l.replies) le did.intervals;
+      tally = did.tally;
+      tally_is = did.tally_is;
+      group = did.group;
+      group_is = did.group_is;
+      printed = did.printed;
+      prints = did.prints;
+      status_is = did.status_is;
+      device = λ none tells. (let same = quiet tells in recorded_from start mid end o journal.notes same (did.device none same.tells));
+    })
+    js ls

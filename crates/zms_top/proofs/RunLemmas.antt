@@ -1,0 +1,187 @@
+-- Commands one behind the other.
+use Rattle.std.proofs.Common.{◌≡◌, ℕ, ◌+◌, ◌<◌, ◌≤◌, Option, Some, None, List, [], ◌∷◌, ◌++◌, length, take, get_or, refl, sym, ◌∙◌, ap, subst, add-one, arith}
+use Rattle.std.specs.Prelude.{◌⊎◌}
+use Rattle.std.proofs.Common.{inl, inr}
+use Rattle.std.proofs.lemmas.List.{length-append, length-take-le}
+use Rattle.std.proofs.lemmas.Bool.{cases_lt}
+use Rattle.std.proofs.lemmas.List.Sums.{fold_push}
+use Rattle.std.proofs.Math.Seq.{take-suc}
+use Rattle.zms_units.specs.declared.faults.First.{First}
+use Rattle.ms_model.specs.Origin.{Origin}
+use Rattle.ms_model.specs.Units.{held, settled_group}
+use Rattle.ms_model.specs.Parts.{right_of, gate_right}
+use Rattle.ms_model.specs.Events.{Event, gate_steps, metaslab_steps}
+use Rattle.ms_model.specs.declared.notes.Noted.{Noted}
+use Rattle.ms_model.specs.declared.notes.GateNote.{GateNote}
+use Rattle.ms_model.proofs.Steps.{follows_both, follows_none, gate_steps-append, metaslab_steps-append}
+use Rattle.ms_core.specs.State.{origin_of}
+use Rattle.zms_dev.specs.Disk.{DiskState, Tells}
+use Rattle.zms_top.specs.Answers.{Replied, paired, first_with, IsOfAlloc}
+use Rattle.zms_top.specs.Sound.{Tour, ground_of, HoldsGroup}
+use Rattle.zms_top.specs.Backing.{Lines, WhatLine, AreIntervals}
+use Rattle.zms_top.specs.Acting.{Acted, IsPool, IsKept, LeavesSettled}
+use Rattle.zms_top.specs.Running.{HasRun, answers_of}
+use Rattle.zms_top.specs.declared.script.Command.{Command}
+use Rattle.zms_top.specs.declared.pool.Pool.{Pool}
+use Rattle.zms_top.specs.declared.replies.Answer.{Answer}
+use Rattle.zms_top.specs.declared.replies.Answer.TheVariants.{Granted, NoSpace, BadSize, Done, Device, Suspended}
+use Rattle.zms_top.specs.declared.replies.Reply.{Reply}
+use Rattle.zms_top.proofs.SyncSteps.{stays_both}
+
+pub tour_both : (lane : ℕ) (es fs : List Event) (h i j : List Noted) (g k l : List GateNote) → Tour lane es h i g k → Tour lane fs i j k l → Tour lane (es ++ fs) h j g l
+tour_both lane es fs h i j g k l first then = record {
+  metaslab = rw (metaslab_steps-append 0 es fs) (follows_both right_of lane h (metaslab_steps 0 es) i (metaslab_steps 0 fs) j first.metaslab then.metaslab);
+  gate = rw (gate_steps-append es fs) (follows_both gate_right lane g (gate_steps es) k (gate_steps fs) l first.gate then.gate);
+}
+
+-- intervals go on from call to call
+
+pub widen : (low mid high : ℕ) (xs : List Answer) → low ≤ mid → AreIntervals mid high xs → AreIntervals low high xs
+widen low mid high [] le is = omega (arith, le, is)
+widen low mid high (Device b a ∷ rest) le is = (omega (arith, le, is.0), (is.1.0, is.1.1))
+widen low mid high (Granted _ _ ∷ rest) le is = widen low mid high rest le is
+widen low mid high (NoSpace _ ∷ rest) le is = widen low mid high rest le is
+widen low mid high (BadSize ∷ rest) le is = widen low mid high rest le is
+widen low mid high (Done _ ∷ rest) le is = widen low mid high rest le is
+widen low mid high (Suspended _ ∷ rest) le is = widen low mid high rest le is
+
+pub intervals_push : (low mid high : ℕ) (xs : List Answer) (a : Answer) → AreIntervals low mid xs → AreIntervals mid high (a ∷ []) → AreIntervals low high (xs ++ a ∷ [])
+intervals_push low mid high [] a is then = widen low mid high (a ∷ []) is then
+intervals_push low mid high (Device b c ∷ rest) a is then = (is.0, (is.1.0, intervals_push c mid high rest a is.1.1 then))
+intervals_push low mid high (Granted _ _ ∷ rest) a is then = intervals_push low mid high rest a is then
+intervals_push low mid high (NoSpace _ ∷ rest) a is then = intervals_push low mid high rest a is then
+intervals_push low mid high (BadSize ∷ rest) a is then = intervals_push low mid high rest a is then
+intervals_push low mid high (Done _ ∷ rest) a is then = intervals_push low mid high rest a is then
+intervals_push low mid high (Suspended _ ∷ rest) a is then = intervals_push low mid high rest a is then
+
+-- an alloc names no fault
+
+pub alloc_first : (first now : Option First) (a : Answer) → IsOfAlloc a → now ≡ first → now ≡ first_with first a
+alloc_first (Some f) now a is e = e
+alloc_first None now (Granted _ _) is e = e
+alloc_first None now (NoSpace _) is e = e
+alloc_first None now BadSize is e = e
+alloc_first None now (Done _) is e = absurd is
+alloc_first None now (Device _ _) is e = absurd is
+alloc_first None now (Suspended _) is e = absurd is
+
+pub alloc_intervals : (low : ℕ) (a : Answer) → IsOfAlloc a → AreIntervals low low (a ∷ [])
+alloc_intervals low (Granted _ _) is = omega arith
+alloc_intervals low (NoSpace _) is = omega arith
+alloc_intervals low BadSize is = omega arith
+alloc_intervals low (Done _) is = absurd is
+alloc_intervals low (Device _ _) is = absurd is
+alloc_intervals low (Suspended _) is = absurd is
+
+-- the device under an alloc
+pub alloc_kept : (p q : Pool) (disk : DiskState) → LeavesSettled p q → Tells disk → IsKept (origin_of p.metaslab) p.metaslab.notes q.metaslab.notes disk disk
+alloc_kept p q disk leaves tells = record {
+  tells = tells;
+  rises = omega (arith, leaves.group);
+  same = λ _. refl;
+  unchanged = λ _ c may. may;
+  held_same = λ _ u. leaves.units u;
+  stored = λ lt. absurd (omega (arith, lt, leaves.group));
+}
+
+pub kept_none : (o : Origin) (h : List Noted) (disk : DiskState) → Tells disk → IsKept o h h disk disk
+kept_none o h disk tells = record {
+  tells = tells;
+  rises = omega arith;
+  same = λ _. refl;
+  unchanged = λ _ c may. may;
+  held_same = λ _ u. refl;
+  stored = λ lt. absurd (omega (arith, lt));
+}
+
+holds_same : (c : List ℕ) (o : Origin) (h j : List Noted) → settled_group o j ≡ settled_group o h
+    → ((u : ℕ) → held o j (settled_group o h) u ≡ held o h (settled_group o h) u) → HoldsGroup c o h → HoldsGroup c o j
+holds_same c o h j settled same holds = record {
+  is = rw settled holds.is;
+  bits = λ u lt. holds.bits u lt ∙ (sym (same u) ∙ ap (λ t. held o j t u) (sym settled));
+  padding = holds.padding;
+}
+
+stored_later : (o : Origin) (h i j : List Noted) (r s t : DiskState) → IsKept o h i r s → IsKept o i j s t
+    → settled_group o h < settled_group o j → (c : List ℕ) → t.may_leave c → (settled_group o i < settled_group o j) ⊎ (settled_group o j ≡ settled_group o i) → HoldsGroup c o j
+stored_later o h i j r s t first then lt c may (inl rose) = then.stored rose c may
+stored_later o h i j r s t first then lt c may (inr same) =
+    holds_same c o i j same (then.held_same same) (first.stored (omega (arith, lt, same)) c (then.unchanged same c may))
+
+above_or_same : (a b : ℕ) → a ≤ b → (a < b) ⊎ (b ≡ a)
+above_or_same a b le = turn (cases_lt a b) where
+  turn : (a < b) ⊎ (b ≤ a) → (a < b) ⊎ (b ≡ a)
+  turn (inl lt) = inl lt
+  turn (inr ge) = inr (omega arith)
+
+-- two commands one behind the other
+pub kept_both : (o : Origin) (h i j : List Noted) (r s t : DiskState) → IsKept o h i r s → IsKept o i j s t → IsKept o h j r t
+kept_both o h i j r s t first then = record {
+  tells = then.tells;
+  rises = omega (arith, first.rises, then.rises);
+  same = λ e.
+      let one : settled_group o i ≡ settled_group o h = omega (arith, e, first.rises, then.rises) in
+      let two : settled_group o j ≡ settled_group o i = omega (arith, e, one) in
+      then.same two ∙ first.same one;
+  unchanged = λ e c may.
+      let one : settled_group o i ≡ settled_group o h = omega (arith, e, first.rises, then.rises) in
+      let two : settled_group o j ≡ settled_group o i = omega (arith, e, one) in
+      first.unchanged one c (then.unchanged two c may);
+  held_same = λ e u.
+      let one : settled_group o i ≡ settled_group o h = omega (arith, e, first.rises, then.rises) in
+      let two : settled_group o j ≡ settled_group o i = omega (arith, e, one) in
+      ap (λ n. held o j n u) (sym one) ∙ (then.held_same two u ∙ (ap (λ n. held o i n u) one ∙ first.held_same one u));
+  stored = λ lt c may. stored_later o h i j r s t first then lt c may (above_or_same (settled_group o i) (settled_group o j) then.rises);
+}
+
+-- one command more
+
+paired_both : (cs : List Command) (rs : List Reply) (c : Command) (r : Reply) → length cs ≡ length rs → paired (cs ++ c ∷ []) (rs ++ r ∷ []) ≡ paired cs rs ++ record { command = c; reply = r } ∷ []
+paired_both [] [] c r same = refl
+paired_both [] (y ∷ rs) c r same = absurd (omega (arith, same))
+paired_both (x ∷ cs) [] c r same = absurd (omega (arith, same))
+paired_both (x ∷ cs) (y ∷ rs) c r same = ap (λ l. record { command = x; reply = y } ∷ l) (paired_both cs rs c r (omega (arith, same)))
+
+pub paired-push : (cs : List Command) (rs : List Reply) (i : ℕ) (c : Command) (r : Reply) → i < length cs → length rs ≡ i → c ≡ get_or cs i c
+    → paired (take (i + 1) cs) (rs ++ r ∷ []) ≡ paired (take i cs) rs ++ record { command = c; reply = r } ∷ []
+paired-push cs rs i c r lt same at = rw (add-one, take-suc cs i c, ← at) (paired_both (take i cs) rs c r (length-take-le i cs (omega arith) ∙ sym same))
+
+pub run_none : (p : Pool) → IsPool p → p.first ≡ None → HasRun p p []
+run_none p was idle = record {
+  events = [];
+  tour = record { metaslab = follows_none right_of 1 p.metaslab.notes; gate = follows_none gate_right 1 p.gate.notes };
+  lines = Lines.none;
+  pool = was;
+  stays = refl;
+  rises = omega arith;
+  fault = sym idle;
+}
+
+pub run_more : (p q r : Pool) (done : List Replied) (c : Command) (answer : Answer) → HasRun p q done → c.lane ≡ 1
+    → Acted q r c.lane (WhatLine (ground_of (origin_of q.metaslab)) c.lane done c.what answer) → r.first ≡ first_with q.first answer
+    → HasRun p r (done ++ record { command = c; reply = record { lane = c.lane; answer = answer } } ∷ [])
+run_more p q r done c answer run lane acted first =
+    let next : Replied = record { command = c; reply = record { lane = c.lane; answer = answer } } in
+    let origin : origin_of q.metaslab ≡ origin_of p.metaslab = ap origin_of run.stays in
+    let what : WhatLine (ground_of (origin_of p.metaslab)) c.lane done c.what answer acted.events =
+    subst (λ (o : Origin). WhatLine (ground_of o) c.lane done c.what answer acted.events) origin acted.line_is in
+    let tour : Tour 1 acted.events q.metaslab.notes r.metaslab.notes q.gate.notes r.gate.notes =
+    subst (λ l. Tour l acted.events q.metaslab.notes r.metaslab.notes q.gate.notes r.gate.notes) lane acted.tour in
+    record {
+      events = run.events ++ acted.events;
+      tour = tour_both 1 run.events acted.events p.metaslab.notes q.metaslab.notes r.metaslab.notes p.gate.notes q.gate.notes r.gate.notes run.tour tour;
+      lines = Lines.more done run.events next acted.events run.lines (record { lane = refl; what = what });
+      pool = acted.pool;
+      stays = stays_both p.metaslab q.metaslab r.metaslab run.stays acted.stays;
+      rises = omega (arith, run.rises, acted.rises, length-append done (next ∷ []));
+      fault = fold_push (λ so_far (x : Replied). first_with so_far x.reply.answer) None done next ∙ (ap (λ f. first_with f answer) run.fault ∙ sym first);
+    }
+
+-- no fault is kept after a command only where none was before
+pub idle_before : (first now : Option First) (a : Answer) → now ≡ first_with first a → now ≡ None → first ≡ None
+idle_before None now a e idle = refl
+idle_before (Some f) now a e idle = cc
+
+pub answers-push : (rs : List Reply) (r : Reply) → answers_of (rs ++ r ∷ []) ≡ answers_of rs ++ r.answer ∷ []
+answers-push [] r = refl
+answers-push (x ∷ rs) r = ap (λ l. x.answer ∷ l) (answers-push rs r)

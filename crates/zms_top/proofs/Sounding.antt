@@ -1,0 +1,146 @@
+-- How a run's facts pass from command to command.
+use Rattle.std.proofs.Common.{◌≡◌, ◌≢◌, ℕ, ◌+◌, ◌<◌, Bool, Option, Some, None, List, [], ◌∷◌, ◌++◌, refl, sym, ◌∙◌, ap, arith}
+use Rattle.std.specs.Prelude.{not, ◌&&◌, ◌||◌}
+use Rattle.std.proofs.lemmas.List.Elements.{All-push}
+use Rattle.zms_units.specs.declared.faults.First.{First}
+use Rattle.zms_units.specs.declared.segments.Group.{Group}
+use Rattle.ms_model.specs.Origin.{Origin}
+use Rattle.ms_model.specs.Units.{held, settled_by, settled_group, collected_by, collected_group}
+use Rattle.ms_model.specs.Legal.{IsLegal, MayDo}
+use Rattle.ms_model.specs.Gains.{is_gained, is_given}
+use Rattle.ms_model.specs.Gates.{open_group}
+use Rattle.ms_model.specs.declared.notes.Act.{Act}
+use Rattle.ms_model.specs.declared.notes.Act.TheVariants.{Grant, Free, Unalloc, Miss, Shut, Collect, Settle, Load, Unload, Disable, Work, Enable}
+use Rattle.ms_model.specs.declared.notes.Noted.{Noted}
+use Rattle.ms_model.specs.declared.notes.GateNote.{GateNote}
+use Rattle.ms_model.specs.declared.notes.GateNote.TheVariants.{Closed, Settled}
+use Rattle.ms_model.proofs.Histories.{settled_group-push, collected_group-push, legal_push}
+use Rattle.ms_model.proofs.Overlaps.{unit_facts}
+use Rattle.ms_model.proofs.Held.{ChangesUpTo, held-quiet}
+use Rattle.zms_top.specs.Sound.{IsSound}
+use Rattle.zms_top.proofs.GateLemmas.{open_group-push, synced_group-push}
+
+-- the notes that leave groups alone
+abbrev pub LeavesGroups : Act → Type 0
+LeavesGroups (Collect _) = ⊥
+LeavesGroups (Settle _) = ⊥
+LeavesGroups Unload = ⊥
+LeavesGroups _ = Unit {0}
+
+settled_stays : (s : ℕ) (act : Act) → LeavesGroups act → settled_by s act ≡ s
+settled_stays s (Collect _) leaves = absurd leaves
+settled_stays s (Settle _) leaves = absurd leaves
+settled_stays s Unload leaves = refl
+settled_stays s (Grant _ _) leaves = refl
+settled_stays s (Free _ _) leaves = refl
+settled_stays s (Unalloc _ _) leaves = refl
+settled_stays s (Miss _) leaves = refl
+settled_stays s Shut leaves = refl
+settled_stays s Load leaves = refl
+settled_stays s (Disable _) leaves = refl
+settled_stays s (Work _ _ _) leaves = refl
+settled_stays s (Enable _) leaves = refl
+
+collected_stays : (s : ℕ) (act : Act) → LeavesGroups act → collected_by s act ≡ s
+collected_stays s (Collect _) leaves = absurd leaves
+collected_stays s (Settle _) leaves = absurd leaves
+collected_stays s Unload leaves = refl
+collected_stays s (Grant _ _) leaves = refl
+collected_stays s (Free _ _) leaves = refl
+collected_stays s (Unalloc _ _) leaves = refl
+collected_stays s (Miss _) leaves = refl
+collected_stays s Shut leaves = refl
+collected_stays s Load leaves = refl
+collected_stays s (Disable _) leaves = refl
+collected_stays s (Work _ _ _) leaves = refl
+collected_stays s (Enable _) leaves = refl
+
+no_unload : (act : Act) → LeavesGroups act → act ≢ Unload
+no_unload Unload leaves e = leaves
+no_unload (Collect _) leaves e = leaves
+no_unload (Settle _) leaves e = leaves
+no_unload (Grant _ _) leaves e = cc
+no_unload (Free _ _) leaves e = cc
+no_unload (Unalloc _ _) leaves e = cc
+no_unload (Miss _) leaves e = cc
+no_unload Shut leaves e = cc
+no_unload Load leaves e = cc
+no_unload (Disable _) leaves e = cc
+no_unload (Work _ _ _) leaves e = cc
+no_unload (Enable _) leaves e = cc
+
+pub settled_note : (o : Origin) (h : List Noted) (lane : ℕ) (act : Act) → LeavesGroups act → settled_group o (h ++ record { lane = lane; act = act } ∷ []) ≡ settled_group o h
+settled_note o h lane act leaves = settled_group-push o h (record { lane = lane; act = act }) ∙ settled_stays (settled_group o h) act leaves
+
+pub collected_note : (o : Origin) (h : List Noted) (lane : ℕ) (act : Act) → LeavesGroups act → collected_group o (h ++ record { lane = lane; act = act } ∷ []) ≡ collected_group o h
+collected_note o h lane act leaves = collected_group-push o h (record { lane = lane; act = act }) ∙ collected_stays (collected_group o h) act leaves
+
+-- a note that leaves the groups, and what the settled one holds, leaves the pool sound
+pub sound_note : (o : Origin) (h : List Noted) (g : List GateNote) (set : ℕ → Bool) (first : Option First) (lane : ℕ) (act : Act)
+    → IsSound o h g set first → MayDo o h lane act → LeavesGroups act → (ChangesUpTo (settled_group o h) act → ⊥)
+    → IsSound o (h ++ record { lane = lane; act = act } ∷ []) g set first
+sound_note o h g set first lane act was may leaves above =
+    let note : Noted = record { lane = lane; act = act } in
+    let s : settled_group o (h ++ note ∷ []) ≡ settled_group o h = settled_note o h lane act leaves in
+    let k : collected_group o (h ++ note ∷ []) ≡ collected_group o h = collected_note o h lane act leaves in
+    record {
+      legal = legal_push o h note was.legal may;
+      kept = All-push (λ n. n.act ≢ Unload) h note was.kept (no_unload act leaves);
+      synced = was.synced ∙ sym s;
+      next = was.next ∙ ap (λ n. n + 1) (sym k);
+      behind = omega (arith, s, k, was.behind);
+      level = λ e. k ∙ (was.level e ∙ sym s);
+      bits = λ e u lt. was.bits e u lt ∙ (sym (held-quiet o h note (settled_group o h) u above) ∙ ap (λ t. held o (h ++ note ∷ []) t u) (sym s));
+    }
+
+-- the open group is closed and collected: so it stands where its commit failed
+pub sound_collected : (o : Origin) (h : List Noted) (g : List GateNote) (set now : ℕ → Bool) (lane : ℕ) (group : Group) (fault : First)
+    → IsSound o h g set None → group.0 ≡ open_group o.opened g
+    → IsSound o (h ++ record { lane = lane; act = Collect group } ∷ []) (g ++ Closed lane group ∷ []) now (Some fault)
+sound_collected o h g set now lane group fault was is =
+    let note : Noted = record { lane = lane; act = Collect group } in
+    let s : settled_group o (h ++ note ∷ []) ≡ settled_group o h = settled_group-push o h note in
+    let k : collected_group o (h ++ note ∷ []) ≡ group.0 = collected_group-push o h note in
+    let level : collected_group o h ≡ settled_group o h = was.level refl in
+    record {
+      legal = legal_push o h note was.legal (is ∙ was.next);
+      kept = All-push (λ n. n.act ≢ Unload) h note was.kept (λ e. cc);
+      synced = synced_group-push o.opened g (Closed lane group) ∙ (was.synced ∙ sym s);
+      next = open_group-push o.opened g (Closed lane group) ∙ ap (λ n. n + 1) (sym k);
+      behind = omega (arith, s, k, is, was.next, level);
+      level = λ e. cc;
+      bits = λ e. cc;
+    }
+
+-- its commit is done, and it is settled
+pub sound_settled : (o : Origin) (h : List Noted) (g : List GateNote) (set now : ℕ → Bool) (lane by : ℕ) (group : Group)
+    → IsSound o h g set None → group.0 ≡ open_group o.opened g
+    → ((u : ℕ) → u < o.units → now u ≡ (not (is_given group.0 h u) && (is_gained group.0 h u || set u)))
+    → IsSound o ((h ++ record { lane = lane; act = Collect group } ∷ []) ++ record { lane = by; act = Settle group } ∷ []) ((g ++ Closed lane group ∷ []) ++ Settled group ∷ []) now None
+sound_settled o h g set now lane by group was is bits =
+    let collect : Noted = record { lane = lane; act = Collect group } in
+    let settle : Noted = record { lane = by; act = Settle group } in
+    let mid : List Noted = h ++ collect ∷ [] in
+    let gate : List GateNote = g ++ Closed lane group ∷ [] in
+    let s1 : settled_group o mid ≡ settled_group o h = settled_group-push o h collect in
+    let k1 : collected_group o mid ≡ group.0 = collected_group-push o h collect in
+    let s2 : settled_group o (mid ++ settle ∷ []) ≡ group.0 = settled_group-push o mid settle in
+    let k2 : collected_group o (mid ++ settle ∷ []) ≡ group.0 = collected_group-push o mid settle ∙ k1 in
+    let level : collected_group o h ≡ settled_group o h = was.level refl in
+    let is_next : group.0 ≡ settled_group o h + 1 = omega (arith, is, was.next, level) in
+    let legal1 : IsLegal o mid = legal_push o h collect was.legal (is ∙ was.next) in
+    record {
+      legal = legal_push o mid settle legal1 (omega (arith, is_next, s1), omega (arith, k1));
+      kept = All-push (λ n. n.act ≢ Unload) mid settle (All-push (λ n. n.act ≢ Unload) h collect was.kept (λ e. cc)) (λ e. cc);
+      synced = synced_group-push o.opened gate (Settled group) ∙ sym s2;
+      next = open_group-push o.opened gate (Settled group) ∙ (open_group-push o.opened g (Closed lane group) ∙ ap (λ n. n + 1) (sym k2));
+      behind = omega (arith, s2, k2);
+      level = λ e. k2 ∙ sym s2;
+      bits = λ e u lt.
+          let quiet2 : held o (mid ++ settle ∷ []) group.0 u ≡ held o mid group.0 u = held-quiet o mid settle group.0 u (λ x. x) in
+          let quiet1 : held o mid group.0 u ≡ held o h group.0 u = held-quiet o h collect group.0 u (λ x. x) in
+          let adds = (unit_facts o h (settled_group o h) u was.legal).adds in
+          let same : set u ≡ held o h (settled_group o h) u = was.bits refl u lt in
+          let sums : held o h group.0 u ≡ (not (is_given group.0 h u) && (is_gained group.0 h u || held o h (settled_group o h) u)) = rw is_next adds in
+          bits u lt ∙ (ap (λ b. not (is_given group.0 h u) && (is_gained group.0 h u || b)) same ∙ (sym sums ∙ (sym quiet1 ∙ (sym quiet2 ∙ ap (λ t. held o (mid ++ settle ∷ []) t u) (sym s2)))));
+    }

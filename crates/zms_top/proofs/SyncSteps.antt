@@ -1,0 +1,239 @@
+-- A sync, from what its parts say.
+use Rattle.std.proofs.Common.{◌≡◌, ℕ, ◌+◌, ◌<◌, ◌≤◌, false, cond, Some, None, List, [], ◌∷◌, ◌++◌, zero, suc, refl, sym, ◌∙◌, ap, subst, arith}
+use Rattle.std.specs.Prelude.{◌==◌, not, ◌&&◌, ◌||◌}
+use Rattle.std.specs.List.{Contains}
+use Rattle.std.proofs.lemmas.List.{append-nil}
+use Rattle.std.proofs.Math.Dec.{eqb-suc-zero}
+use Rattle.std.proofs.lemmas.List.Elements.{Contains-append_right}
+use Rattle.zms_units.specs.declared.faults.First.{First}
+use Rattle.zms_units.specs.declared.faults.First.TheVariants.{Device as FirstDevice}
+use Rattle.zms_units.specs.declared.segments.Group.{Group}
+use Rattle.ms_model.specs.Origin.{Origin}
+use Rattle.ms_model.specs.Units.{settled_group, collected_group}
+use Rattle.ms_model.specs.Gains.{is_gained, is_given}
+use Rattle.ms_model.specs.Gates.{open_group, synced_group}
+use Rattle.ms_model.specs.Steps.{look, noting, Quiet}
+use Rattle.ms_model.specs.Parts.{right_of, gate_right}
+use Rattle.ms_model.specs.Events.{at_gate, at_metaslab}
+use Rattle.ms_model.specs.declared.notes.Act.TheVariants.{Collect, Settle}
+use Rattle.ms_model.specs.declared.notes.Noted.{Noted}
+use Rattle.ms_model.specs.declared.notes.GateNote.{GateNote}
+use Rattle.ms_model.specs.declared.notes.GateNote.TheVariants.{Closed, Settled}
+use Rattle.ms_model.proofs.Histories.{settled_group-push, collected_group-push}
+use Rattle.ms_model.proofs.Steps.{quiet_none, quiet_both}
+use Rattle.ms_core.specs.State.{MsState, origin_of, settled_of, collected_of, StaysButNotes}
+use Rattle.zms_dev.specs.Causes.{Rose}
+use Rattle.zms_dev.specs.Disk.{DiskState, Tells}
+use Rattle.zms_top.specs.GateState.{GateState}
+use Rattle.zms_top.specs.Record.{IsRecord, IsStored, is_set}
+use Rattle.zms_top.specs.Sound.{IsSound, ground_of, HoldsGroup}
+use Rattle.zms_top.specs.Answers.{first_with}
+use Rattle.zms_top.specs.Backing.{SyncLine, SeenSettled, AreIntervals}
+use Rattle.zms_top.specs.Acting.{Acted, IsPool, IsClosed, IsCommitted, IsKept}
+use Rattle.zms_top.specs.declared.replies.Answer.{Answer}
+use Rattle.zms_top.specs.declared.pool.Pool.{Pool}
+use Rattle.zms_top.specs.declared.replies.Answer.TheVariants.{Done, Device, Suspended}
+use Rattle.zms_top.proofs.GateLemmas.{open_group-push, synced_group-push}
+use Rattle.zms_top.proofs.Sounding.{sound_collected, sound_settled}
+use Rattle.zms_top.proofs.AllocSteps.{quiet_keeper}
+use Rattle.zms_top.proofs.PoolLemmas.{pool_grows}
+
+-- nothing was done, and the kept fault is told
+pub suspended_did : (p : Pool) (lane : ℕ) (fault : First) → IsPool p → p.first ≡ Some fault
+    → Acted p p lane (SyncLine (ground_of (origin_of p.metaslab)) lane p.first (Suspended fault))
+suspended_did p lane fault was is = record {
+  events = [];
+  tour = record { metaslab = quiet_none right_of lane p.metaslab.notes; gate = quiet_none gate_right lane p.gate.notes };
+  line_is = rw is (refl, refl);
+  pool = was;
+  stays = refl;
+  rises = omega arith;
+}
+
+-- a settling is quiet for a lane
+settling_quiet : (lane : ℕ) (g : List GateNote) (group : Group) → 1 ≤ lane → Quiet gate_right lane g (g ++ Settled group ∷ [])
+settling_quiet lane g group some = record { more = Settled group ∷ []; is = refl; none = ap (λ b. cond b (Settled group ∷ []) []) (other lane some) } where
+  other : (lane : ℕ) → 1 ≤ lane → (lane == 0) ≡ false
+  other zero some = absurd (omega arith)
+  other (suc n) some = eqb-suc-zero n
+
+contains_last : {A : Type 0} (xs : List A) (x : A) → Contains (xs ++ x ∷ []) x
+contains_last xs x = Contains-append_right xs (x ∷ []) x (0, omega arith, refl)
+
+-- what stands after a group was closed and collected
+pub record ClosedFacts (p q : Pool) (group : Group) : Type 0 where
+  pub next : group.0 ≡ settled_of q.metaslab + 1
+  pub collected : group.0 ≤ collected_of q.metaslab
+  pub gate_next : group.0 ≡ synced_group q.gate.opened q.gate.notes + 1
+  pub gate_closed : group.0 < open_group q.gate.opened q.gate.notes
+
+pub closed_facts : (p q : Pool) (lane : ℕ) (group : Group) → IsPool p → p.first ≡ None → IsClosed p q lane group → ClosedFacts p q group
+closed_facts p q lane group was idle is =
+    let o : Origin = origin_of p.metaslab in
+    let origin : origin_of q.metaslab ≡ o = ap origin_of is.stays in
+    let opened : q.gate.opened ≡ p.metaslab.opened = ap (λ (g : GateState). g.opened) is.gate ∙ was.opened in
+    let gate_notes : q.gate.notes ≡ p.gate.notes ++ Closed lane group ∷ [] = ap (λ (g : GateState). g.notes) is.gate in
+    let is_open : group.0 ≡ open_group p.metaslab.opened p.gate.notes = rw (← was.opened) is.is_open in
+    let settled : settled_of q.metaslab ≡ settled_group o p.metaslab.notes =
+    ap (λ (x : Origin). settled_group x q.metaslab.notes) origin ∙ (ap (settled_group o) is.notes ∙ settled_group-push o p.metaslab.notes (record { lane = lane; act = Collect group })) in
+    let collected : collected_of q.metaslab ≡ group.0 =
+    ap (λ (x : Origin). collected_group x q.metaslab.notes) origin ∙ (ap (collected_group o) is.notes ∙ collected_group-push o p.metaslab.notes (record { lane = lane; act = Collect group })) in
+    let synced : synced_group q.gate.opened q.gate.notes ≡ synced_group p.metaslab.opened p.gate.notes =
+    ap (λ n. synced_group n q.gate.notes) opened ∙ (ap (synced_group p.metaslab.opened) gate_notes ∙ synced_group-push p.metaslab.opened p.gate.notes (Closed lane group)) in
+    let open_now : open_group q.gate.opened q.gate.notes ≡ group.0 + 1 =
+    ap (λ n. open_group n q.gate.notes) opened ∙ (ap (open_group p.metaslab.opened) gate_notes ∙ open_group-push p.metaslab.opened p.gate.notes (Closed lane group)) in
+    let level = was.sound.level idle in
+    record {
+      next = omega (arith, is_open, was.sound.next, level, settled);
+      collected = omega (arith, collected);
+      gate_next = omega (arith, is_open, was.sound.next, was.sound.synced, level, synced);
+      gate_closed = omega (arith, open_now);
+    }
+
+gate_opened : (p q : Pool) (l : List GateNote) → q.gate ≡ record p.gate { notes = l; room = q.gate.room } → q.gate.opened ≡ p.gate.opened
+gate_opened p q l e = ap (λ (g : GateState). g.opened) e
+
+-- the device failed: the closed group stays behind
+pub failed_did : (p q : Pool) (lane : ℕ) (group : Group) (low high : ℕ)
+    → IsPool p → p.first ≡ None → 1 ≤ lane → group.0 ≡ open_group p.gate.opened p.gate.notes
+    → q.gate.opened ≡ p.gate.opened → q.gate.notes ≡ p.gate.notes ++ Closed lane group ∷ []
+    → q.metaslab.notes ≡ p.metaslab.notes ++ record { lane = lane; act = Collect group } ∷ [] → StaysButNotes p.metaslab q.metaslab
+    → q.base ≡ p.base → q.record.units ≡ p.record.units → q.first ≡ Some (FirstDevice low high) → Rose low high
+    → Acted p q lane (SyncLine (ground_of (origin_of p.metaslab)) lane p.first (Device low high))
+failed_did p q lane group low high was idle some is opened gate notes stays base units fault rose =
+    let o : Origin = origin_of p.metaslab in
+    let is_open : group.0 ≡ open_group p.metaslab.opened p.gate.notes = rw (← was.opened) is in
+    let sound_was : IsSound o p.metaslab.notes p.gate.notes (is_set p.record.bytes.items) None = subst (IsSound o p.metaslab.notes p.gate.notes (is_set p.record.bytes.items)) idle was.sound in
+    let sound_now : IsSound o q.metaslab.notes q.gate.notes (is_set q.record.bytes.items) q.first =
+    rw (fault, notes, gate) (sound_collected o p.metaslab.notes p.gate.notes (is_set p.record.bytes.items) (is_set q.record.bytes.items) lane group (FirstDevice low high) sound_was is_open) in
+    let quiet : Quiet right_of lane p.metaslab.notes q.metaslab.notes = rw notes (quiet_keeper lane p.metaslab.notes lane (Collect group) refl some) in
+    let after : Quiet gate_right lane (p.gate.notes ++ Closed lane group ∷ []) q.gate.notes = rw gate (quiet_none gate_right lane (p.gate.notes ++ Closed lane group ∷ [])) in
+    let rises : open_group q.gate.opened q.gate.notes ≡ group.0 + 1 = rw (opened, gate) (open_group-push p.gate.opened p.gate.notes (Closed lane group)) in
+    record {
+      events = at_gate (noting p.gate.notes (Closed lane group)) ∷ [];
+      tour = record { metaslab = quiet; gate = (quiet_none gate_right lane p.gate.notes, (refl, after)) };
+      line_is = rw idle (record { before = p.gate.notes; group = group; is_open = is_open; rose = rose; whole = refl });
+      pool = pool_grows p q was stays opened base units sound_now;
+      stays = stays;
+      rises = omega (arith, rises, is);
+    }
+
+-- the group is committed and settled
+pub done_did : (p q : Pool) (lane : ℕ) (group : Group)
+    → IsPool p → p.first ≡ None → 1 ≤ lane → group.0 ≡ open_group p.gate.opened p.gate.notes
+    → q.gate.opened ≡ p.gate.opened → q.gate.notes ≡ (p.gate.notes ++ Closed lane group ∷ []) ++ Settled group ∷ []
+    → q.metaslab.notes ≡ (p.metaslab.notes ++ record { lane = lane; act = Collect group } ∷ []) ++ record { lane = lane; act = Settle group } ∷ [] → StaysButNotes p.metaslab q.metaslab
+    → q.base ≡ p.base → q.record.units ≡ p.record.units → q.first ≡ None
+    → ((u : ℕ) → u < p.metaslab.units → is_set q.record.bytes.items u ≡ (not (is_given group.0 p.metaslab.notes u) && (is_gained group.0 p.metaslab.notes u || is_set p.record.bytes.items u)))
+    → Acted p q lane (SyncLine (ground_of (origin_of p.metaslab)) lane p.first (Done group))
+done_did p q lane group was idle some is opened gate notes stays base units first bits =
+    let o : Origin = origin_of p.metaslab in
+    let collect : Noted = record { lane = lane; act = Collect group } in
+    let settle : Noted = record { lane = lane; act = Settle group } in
+    let mid : List Noted = p.metaslab.notes ++ collect ∷ [] in
+    let closed : List GateNote = p.gate.notes ++ Closed lane group ∷ [] in
+    let is_open : group.0 ≡ open_group p.metaslab.opened p.gate.notes = rw (← was.opened) is in
+    let sound_was : IsSound o p.metaslab.notes p.gate.notes (is_set p.record.bytes.items) None = subst (IsSound o p.metaslab.notes p.gate.notes (is_set p.record.bytes.items)) idle was.sound in
+    let sound_now : IsSound o q.metaslab.notes q.gate.notes (is_set q.record.bytes.items) q.first =
+    rw (first, notes, gate) (sound_settled o p.metaslab.notes p.gate.notes (is_set p.record.bytes.items) (is_set q.record.bytes.items) lane lane group sound_was is_open bits) in
+    let quiet : Quiet right_of lane p.metaslab.notes q.metaslab.notes =
+    rw notes (quiet_both right_of lane p.metaslab.notes mid (mid ++ settle ∷ []) (quiet_keeper lane p.metaslab.notes lane (Collect group) refl some) (quiet_keeper lane mid lane (Settle group) refl some)) in
+    let still : Quiet right_of lane (q.metaslab.notes ++ []) q.metaslab.notes = subst (λ l. Quiet right_of lane l q.metaslab.notes) (sym (append-nil q.metaslab.notes)) (quiet_none right_of lane q.metaslab.notes) in
+    let settling : Quiet gate_right lane closed q.gate.notes = rw gate (settling_quiet lane closed group some) in
+    let gate_still : Quiet gate_right lane (q.gate.notes ++ []) q.gate.notes = subst (λ l. Quiet gate_right lane l q.gate.notes) (sym (append-nil q.gate.notes)) (quiet_none gate_right lane q.gate.notes) in
+    let seen : Contains q.metaslab.notes settle = rw notes (contains_last mid settle) in
+    let gate_seen : Contains q.gate.notes (Settled group) = rw gate (contains_last closed (Settled group)) in
+    let rises : open_group q.gate.opened q.gate.notes ≡ group.0 + 1 =
+    rw (opened, gate) (open_group-push p.gate.opened closed (Settled group) ∙ open_group-push p.gate.opened p.gate.notes (Closed lane group)) in
+    record {
+      events = at_gate (noting p.gate.notes (Closed lane group)) ∷ ((at_metaslab 0 (look q.metaslab.notes) ∷ []) ++ (at_gate (look q.gate.notes) ∷ []));
+      tour = record {
+        metaslab = (quiet, (tt, still));
+        gate = (quiet_none gate_right lane p.gate.notes, (refl, (settling, (tt, gate_still))));
+      };
+      line_is = rw idle (record {
+        before = p.gate.notes;
+        is_open = is_open;
+        seen = at_metaslab 0 (look q.metaslab.notes) ∷ [];
+        settled = SeenSettled.more 0 [] q.metaslab.notes lane SeenSettled.none seen;
+        after = q.gate.notes;
+        gate_settled = gate_seen;
+        whole = refl;
+      });
+      pool = pool_grows p q was stays opened base units sound_now;
+      stays = stays;
+      rises = omega (arith, rises, is);
+    }
+
+-- the images that a stop may leave then hold the settled group
+pub stored_holds : (q : Pool) (group : Group) (c : List ℕ) → IsPool q → q.first ≡ None → settled_of q.metaslab ≡ group.0
+    → IsStored c group.0 q.record.units q.record.bytes.items → HoldsGroup c (origin_of q.metaslab) q.metaslab.notes
+stored_holds q group c was idle settled stored = record {
+  is = rw settled (subst (λ n. IsRecord c group.0 n) was.record_units stored.is);
+  bits = λ u lt. stored.bits u (omega (arith, lt, was.record_units)) ∙ was.sound.bits idle u lt;
+  padding = λ u le lt. stored.padding u (omega (arith, le, was.record_units)) (rw was.record_units lt);
+}
+
+-- a sync that closed a group, whatever the device did
+pub record SyncDid (p q : Pool) (lane low high : ℕ) (answer : Answer) : Type 0 where
+  pub acted : Acted p q lane (SyncLine (ground_of (origin_of p.metaslab)) lane p.first answer)
+  pub first : q.first ≡ first_with p.first answer
+  pub intervals : AreIntervals low high (answer ∷ [])
+  pub later : low ≤ high
+
+pub stays_both : (a b c : MsState) → StaysButNotes a b → StaysButNotes b c → StaysButNotes a c
+stays_both a b c first then = then ∙ ap (λ (m : MsState). let r : MsState = record m { notes = c.notes; room = c.room } in r) first
+
+pub sync_did : (p mid q : Pool) (lane : ℕ) (group : Group) (low high : ℕ) (answer : Answer)
+    → IsPool p → p.first ≡ None → 1 ≤ lane → IsClosed p mid lane group → IsCommitted mid q lane group low high answer → SyncDid p q lane low high answer
+sync_did p mid q lane group low high answer was idle some closed (IsCommitted.settled is gate notes stays first base units bits later) =
+    let gate_notes : q.gate.notes ≡ (p.gate.notes ++ Closed lane group ∷ []) ++ Settled group ∷ [] =
+    ap (λ (g : GateState). g.notes) gate ∙ ap (λ (g : GateState). g.notes ++ Settled group ∷ []) closed.gate in
+    let all : (u : ℕ) → u < p.metaslab.units → is_set q.record.bytes.items u ≡ (not (is_given group.0 p.metaslab.notes u) && (is_gained group.0 p.metaslab.notes u || is_set p.record.bytes.items u)) =
+    λ u lt. bits u ∙ closed.bits u lt in
+    let idle_now : q.first ≡ None = first ∙ (closed.first ∙ idle) in
+    rw is (record {
+      acted = done_did p q lane group was idle some closed.is_open (gate_opened mid q _ gate ∙ gate_opened p mid _ closed.gate) gate_notes
+          (notes ∙ ap (λ l. l ++ record { lane = lane; act = Settle group } ∷ []) closed.notes) (stays_both p.metaslab mid.metaslab q.metaslab closed.stays stays)
+          (base ∙ closed.base) (units ∙ closed.units) idle_now all;
+      first = rw idle idle_now;
+      intervals = later;
+      later = later;
+    })
+sync_did p mid q lane group low high answer was idle some closed (IsCommitted.failed is rose later gate metaslab first base units bits) =
+    let gate_notes : q.gate.notes ≡ p.gate.notes ++ Closed lane group ∷ [] = ap (λ (g : GateState). g.notes) (gate ∙ closed.gate) in
+    rw is (record {
+      acted = failed_did p q lane group low high was idle some closed.is_open (ap (λ (g : GateState). g.opened) (gate ∙ closed.gate)) gate_notes
+          (ap (λ (m : MsState). m.notes) metaslab ∙ closed.notes) (subst (StaysButNotes p.metaslab) (sym metaslab) closed.stays)
+          (base ∙ closed.base) (units ∙ closed.units) first rose;
+      first = rw idle first;
+      intervals = (omega arith, (rose, omega arith));
+      later = later;
+    })
+
+-- and what the device holds then, where no fault is kept
+pub kept_after : (p mid q : Pool) (lane : ℕ) (group : Group) (low high : ℕ) (answer : Answer) (old new : DiskState)
+    → IsPool p → p.first ≡ None → IsPool q → IsClosed p mid lane group → IsCommitted mid q lane group low high answer → q.first ≡ None → Tells new
+    → (answer ≡ Done group → (c : List ℕ) → new.may_leave c → IsStored c group.0 q.record.units q.record.bytes.items)
+    → IsKept (origin_of p.metaslab) p.metaslab.notes q.metaslab.notes old new
+kept_after p mid q lane group low high answer old new was idle now closed (IsCommitted.settled is gate notes stays first base units bits later) none tells stored =
+    let o : Origin = origin_of p.metaslab in
+    let all : StaysButNotes p.metaslab q.metaslab = stays_both p.metaslab mid.metaslab q.metaslab closed.stays stays in
+    let origin : origin_of q.metaslab ≡ o = ap origin_of all in
+    let is_open : group.0 ≡ open_group p.metaslab.opened p.gate.notes = rw (← was.opened) closed.is_open in
+    let next : group.0 ≡ settled_group o p.metaslab.notes + 1 = omega (arith, is_open, was.sound.next, was.sound.level idle) in
+    let settled : settled_group o q.metaslab.notes ≡ group.0 =
+    ap (settled_group o) notes ∙ settled_group-push o mid.metaslab.notes (record { lane = lane; act = Settle group }) in
+    let settled_q : settled_of q.metaslab ≡ group.0 = ap (λ (x : Origin). settled_group x q.metaslab.notes) origin ∙ settled in
+    record {
+      tells = tells;
+      rises = omega (arith, next, settled);
+      same = λ e. absurd (omega (arith, e, next, settled));
+      unchanged = λ e. absurd (omega (arith, e, next, settled));
+      held_same = λ e. absurd (omega (arith, e, next, settled));
+      stored = λ lt c leaves. subst (λ (x : Origin). HoldsGroup c x q.metaslab.notes) origin (stored_holds q group c now none settled_q (stored is c leaves));
+    }
+kept_after p mid q lane group low high answer old new was idle now closed (IsCommitted.failed is rose later gate metaslab first base units bits) none tells stored =
+    absurd (never (FirstDevice low high) (sym first ∙ none)) where
+      never : (x : First) → Some x ≡ None → ⊥
+      never x e = cc

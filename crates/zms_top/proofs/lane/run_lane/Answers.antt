@@ -1,0 +1,81 @@
+use Rattle.std.proofs.Common.{◌≡◌, ◌+◌, ◌++◌, ◌∷◌, [], length, take, refl, sym, ◌∙◌, ap, subst, arith, length-append}
+use Rattle.std.proofs.lemmas.List.{take_all, length-take-le}
+use Rattle.zms_top.proofs.PairLemmas.{length-paired}
+use Rattle.std.proofs.lemmas.List.Elements.{All-get_or}
+use Rattle.ms_model.specs.Origin.{Origin}
+use Rattle.zms_top.specs.Acting.{IsKept}
+use Rattle.zms_top.specs.declared.replies.Reply.{Reply}
+use Rattle.ms_core.specs.State.{origin_of}
+use Rattle.zms_top.specs.Answers.{paired}
+use Rattle.zms_top.specs.Backing.{AreIntervals}
+use Rattle.zms_top.specs.Running.{HasRun, answers_of}
+use Rattle.zms_top.specs.Script.{IsCommand}
+use Rattle.zms_top.proofs.SyncSteps.{stays_both}
+use Rattle.zms_top.proofs.RunLemmas.{run_none, run_more, kept_none, kept_both, intervals_push, answers-push, paired-push, idle_before}
+use Rattle.zms_top.proofs.lane.run_lane.Goals as goal
+
+pub loop-command-init : goal.loop-command-init
+loop-command-init g c =
+    let empty = c.in_ok-replies.ensures.items in
+    record {
+      each = ap length empty;
+      ran = run_none c.args.pool.now c.requires.pool c.requires.fresh;
+      intervals = subst (λ l. AreIntervals (g.D.Disk.faults c.args.disk.now) (g.D.Disk.faults c.args.disk.now) (answers_of l)) (sym empty) (omega arith);
+      kept = λ tells idle. kept_none _ _ (g.D.Disk.state c.args.disk.now) tells;
+      stays = refl;
+      gate = refl;
+      later = omega arith;
+    }
+
+pub loop-command-preserved : goal.loop-command-preserved
+loop-command-preserved g c =
+    let was = c.loop-command.invariant in
+    let item = c.command-item.result in
+    let i = c.loop-command.command-index in
+    let rs = c.loop-command.replies.items in
+    let done = paired (take i c.args.commands.now) rs in
+    let reply : Reply = record { lane = c.command-item.result.lane; answer = c.in_ok-answer.answer } in
+    let items : c.push.new.self.items ≡ c.loop-command.replies.items ++ reply ∷ [] = c.in_ok-push.ensures.items in
+    let is_command : IsCommand c.command-item.result = subst IsCommand (sym c.command-item.is) (All-get_or IsCommand c.args.commands.now i item c.loop-command-test.true c.requires.commands) in
+    let did = c.in_ok-answer.ensures in
+    let run = run_more c.args.pool.now c.loop-command.pool c.run_command.new.pool done item c.in_ok-answer.answer was.ran is_command.lane (did.acted done was.ran.fault) did.first in
+    let pairs = ap (λ l. paired (take (i + 1) c.args.commands.now) l) items ∙ paired-push c.args.commands.now rs i item reply c.loop-command-test.true was.each c.command-item.is in
+    let origin : origin_of c.loop-command.pool.metaslab ≡ origin_of c.args.pool.now.metaslab = ap origin_of was.ran.stays in
+    record {
+      each = ap length items ∙ (length-append rs (reply ∷ []) ∙ ap (λ n. n + 1) was.each);
+      ran = subst (λ l. HasRun c.args.pool.now c.run_command.new.pool l) (sym pairs) run;
+      intervals = subst (λ l. AreIntervals (g.D.Disk.faults c.args.disk.now) (g.D.Disk.faults c.run_command.new.disk) l) (sym (ap answers_of items ∙ answers-push rs reply))
+          (intervals_push _ _ _ (answers_of rs) c.in_ok-answer.answer was.intervals did.intervals);
+      kept = λ tells idle.
+          let before = idle_before c.loop-command.pool.first c.run_command.new.pool.first c.in_ok-answer.answer did.first idle in
+          let first = was.kept tells before in
+          let then = did.kept first.tells idle in
+          kept_both (origin_of c.args.pool.now.metaslab) c.args.pool.now.metaslab.notes c.loop-command.pool.metaslab.notes c.run_command.new.pool.metaslab.notes
+          (g.D.Disk.state c.args.disk.now) (g.D.Disk.state c.loop-command.disk) (g.D.Disk.state c.run_command.new.disk) first
+          (subst (λ (o : Origin). IsKept o c.loop-command.pool.metaslab.notes c.run_command.new.pool.metaslab.notes (g.D.Disk.state c.loop-command.disk) (g.D.Disk.state c.run_command.new.disk)) origin then);
+      stays = stays_both c.args.pool.now.metaslab c.loop-command.pool.metaslab c.run_command.new.pool.metaslab was.stays did.stays;
+      gate = did.gate ∙ was.gate;
+      later = omega (arith, was.later, did.later);
+    }
+
+pub returns : goal.returns
+returns g c =
+    let was = c.loop-command.invariant in
+    let all : take c.loop-command.command-index c.args.commands.now ≡ c.args.commands.now = take_all c.loop-command.command-index c.args.commands.now c.loop-command-test.false in
+    record {
+      each = omega (arith, was.each, c.loop-command-test.false, c.loop-command.auto.command-index-end);
+      ran = subst (λ l. HasRun c.args.pool.now c.loop-command.pool (paired l c.loop-command.replies.items)) all was.ran;
+      intervals = was.intervals;
+      kept = was.kept;
+      stays = was.stays;
+      gate = was.gate;
+      later = was.later;
+    }
+
+pub run_command-requires-clause-small : goal.run_command-requires-clause-small
+run_command-requires-clause-small g c =
+    let was = c.loop-command.invariant in
+    let i = c.loop-command.command-index in
+    let front = length-take-le i c.args.commands.now (omega (arith, c.loop-command-test.true)) in
+    let pairs = length-paired (take i c.args.commands.now) c.loop-command.replies.items (front ∙ sym was.each) in
+    omega (arith, was.ran.rises, pairs, front, c.requires.small, c.loop-command-test.true)

@@ -1,0 +1,19 @@
+use Rattle.std.proofs.Common.{◌≡◌, ◌≤◌, length, take, None}
+use Rattle.ms_core.specs.State.{origin_of, StaysButNotes}
+use Rattle.zms_dev.specs.Disk.{Tells}
+use Rattle.zms_top.specs.Answers.{paired}
+use Rattle.zms_top.specs.Backing.{AreIntervals}
+use Rattle.zms_top.specs.Acting.{IsKept}
+use Rattle.zms_top.specs.Running.{HasRun, answers_of}
+use Rattle.zms_top.proofs.lane.run_lane.Given as goal
+
+abbrev pub invariant-loop-command : goal.invariant-loop-command
+invariant-loop-command g l = record {
+  each : length l.replies.items ≡ l.command-index;
+  ran : HasRun l.fn.pool l.pool (paired (take l.command-index l.commands) l.replies.items);
+  intervals : AreIntervals (g.D.Disk.faults l.fn.disk) (g.D.Disk.faults l.disk) (answers_of l.replies.items);
+  kept : Tells (g.D.Disk.state l.fn.disk) → l.pool.first ≡ None → IsKept (origin_of l.fn.pool.metaslab) l.fn.pool.metaslab.notes l.pool.metaslab.notes (g.D.Disk.state l.fn.disk) (g.D.Disk.state l.disk);
+  stays : StaysButNotes l.fn.pool.metaslab l.pool.metaslab;
+  gate : l.pool.gate.opened ≡ l.fn.pool.gate.opened;
+  later : g.D.Disk.faults l.fn.disk ≤ g.D.Disk.faults l.disk;
+}

@@ -1,0 +1,14 @@
+use Rattle.std.specs.Prelude.{codes}
+use Rattle.zms_top.specs.Texts.{first_text}
+use Rattle.zms_top.proofs.PrintLemmas.{printed_first, prints_failed_first, prints_tail, one_piece}
+use Rattle.zms_top.proofs.printing.write_suspended.Goals as goal
+
+pub returns-in_err-write_pieces : goal.returns-in_err-write_pieces
+returns-in_err-write_pieces g c =
+    prints_failed_first _ _ _ _ _ _ _ _ _ _ c.write_pieces.ensures c.in_err-write_pieces.was c.from_residual.ensures.0
+    (one_piece (codes "suspended ") (first_text c.args.first.now))
+
+pub returns : goal.returns
+returns g c =
+    prints_tail _ _ _ _ _ _ _ _ _ _ (printed_first _ _ _ _ _ _ _ c.write_pieces.ensures c.in_ok-write_pieces.was) c.write_first.ensures
+    (one_piece (codes "suspended ") (first_text c.args.first.now))

@@ -1,0 +1,21 @@
+use Rattle.std.proofs.Common.{◌∙◌}
+use Rattle.zms_top.proofs.SyncSteps.{sync_did, kept_after}
+use Rattle.zms_top.proofs.syncing.sync.Goals as goal
+
+pub returns : goal.returns
+returns g c =
+    let closed = c.in_ok-group.ensures.closed in
+    let committed = c.commit.ensures.committed in
+    let did = sync_did _ _ _ c.args.lane c.in_ok-group.group _ _ c.commit.result c.requires.pool c.in_default.is c.requires.lane.0 closed committed in
+    record {
+      acted = did.acted;
+      first = did.first;
+      intervals = did.intervals;
+      recorded = λ tells none.
+          kept_after c.args.pool.now c.close.new.pool c.commit.new.pool c.args.lane c.in_ok-group.group _ _ c.commit.result
+          (g.D.Disk.state c.args.disk.now) (g.D.Disk.state c.commit.new.disk)
+          c.requires.pool c.in_default.is did.acted.pool closed committed none (c.commit.ensures.tells tells) (c.commit.ensures.leaves tells);
+      later = did.later;
+      stays = did.acted.stays;
+      gate = c.commit.ensures.gate ∙ c.in_ok-group.ensures.gate;
+    }

@@ -1,0 +1,149 @@
+-- When the replies of a lane are backed by what it did: each command's part of the lane's events is as the table of
+-- replies says, and the events are all that the lane did in each journal.
+use Rattle.std.specs.Prelude.{◌≡◌, ℕ, ◌+◌, ◌*◌, ◌^◌, ◌<◌, ◌≤◌, ◌⊎◌, Option, Some, None, List, [], ◌∷◌, ◌++◌, slice_get}
+use Rattle.std.specs.List.{Contains}
+use Rattle.zms_units.specs.declared.segments.Seg.{Seg}
+use Rattle.zms_units.specs.declared.segments.Group.{Group}
+use Rattle.zms_units.specs.declared.blocks.Dva.{Dva}
+use Rattle.zms_units.specs.declared.faults.First.{First}
+use Rattle.zms_units.specs.declared.places.Class.TheVariants.{Normal}
+use Rattle.zms_units.specs.Rounding.{AreUnitsOf}
+use Rattle.ms_model.specs.declared.notes.Act.TheVariants.{Grant, Miss, Settle}
+use Rattle.ms_model.specs.declared.notes.Noted.{Noted}
+use Rattle.ms_model.specs.declared.notes.GateNote.{GateNote}
+use Rattle.ms_model.specs.declared.notes.GateNote.TheVariants.{Closed, Settled}
+use Rattle.ms_model.specs.Steps.{look, noting, Follows}
+use Rattle.ms_model.specs.Parts.{right_of, gate_right}
+use Rattle.ms_model.specs.Gates.{open_group}
+use Rattle.ms_model.specs.Events.{Event, at_gate, at_metaslab, gate_steps, metaslab_steps}
+use Rattle.zms_dev.specs.Causes.{Rose}
+use Rattle.zms_top.specs.Answers.{Replied, first_fault}
+use Rattle.zms_top.specs.declared.script.What.{What}
+use Rattle.zms_top.specs.declared.script.What.TheVariants.{Alloc, Sync}
+use Rattle.zms_top.specs.declared.replies.Answer.{Answer}
+use Rattle.zms_top.specs.declared.replies.Answer.TheVariants.{Granted, NoSpace, BadSize, Done, Device, Suspended}
+
+-- what the lines need of the pool: the group at which it was opened, and its one vdev: the shift, the units of each of
+-- its metaslabs, and how many metaslabs there are
+pub record Ground : Type 0 where
+  pub opened : ℕ
+  pub ashift : ℕ
+  pub units : ℕ
+  pub metaslabs : ℕ
+
+-- the place of a metaslab's segment, in bytes of its vdev
+abbrev pub dva_at : Ground → ℕ → Seg → Dva
+dva_at pool at seg = record { class = Normal; vdev = 0; offset = (at * pool.units + seg.start) * 2 ^ pool.ashift; size = seg.count * 2 ^ pool.ashift }
+
+-- a lane holds the open group, acts, and gives the hold back
+pub record Holding (pool : Ground) (group : ℕ) (inner es : List Event) : Type 0 where
+  pub start : List GateNote
+  pub stop : List GateNote
+  pub is_open : group ≡ open_group pool.opened start
+  pub whole : es ≡ at_gate (look start) ∷ (inner ++ (at_gate (look stop) ∷ []))
+
+-- the metaslabs below a place were looked at in order, and each has a miss of exactly so many units
+pub data Missed (lane count : ℕ) : ℕ → List Event → Type 0 where
+  none : Missed lane count 0 []
+  more : (at : ℕ) (es : List Event) (before : List Noted) → Missed lane count at es
+      → Missed lane count (at + 1) (es ++ (at_metaslab at (noting before (record { lane = lane; act = Miss count })) ∷ []))
+
+-- the metaslabs before one were looked at and missed, and this one granted the segment
+pub record Found (pool : Ground) (lane count : ℕ) (group : Group) (copies : List Dva) (es : List Event) : Type 0 where
+  pub misses : List Event
+  pub at : ℕ
+  pub before : List Noted
+  pub seg : Seg
+  pub inside : at < pool.metaslabs
+  pub missed : Missed lane count at misses
+  pub counts : seg.count ≡ count
+  pub whole : es ≡ misses ++ (at_metaslab at (noting before (record { lane = lane; act = Grant group seg })) ∷ [])
+  pub copies_are : copies ≡ dva_at pool at seg ∷ []
+
+-- `granted`: the size is one of a block, a metaslab granted its units in the group of the hold, and those before it missed
+pub record IsGranted (pool : Ground) (lane size : ℕ) (group : Group) (copies : List Dva) (es : List Event) : Type 0 where
+  pub count : ℕ
+  pub units : AreUnitsOf size pool.ashift count
+  pub inner : List Event
+  pub holding : Holding pool group.0 inner es
+  pub found : Found pool lane count group copies inner
+
+-- `nospace`: every metaslab has a miss of the block's units, and their number is told
+pub record IsNoSpace (pool : Ground) (lane size looked : ℕ) (es : List Event) : Type 0 where
+  pub count : ℕ
+  pub units : AreUnitsOf size pool.ashift count
+  pub group : ℕ
+  pub inner : List Event
+  pub holding : Holding pool group inner es
+  pub missed : Missed lane count pool.metaslabs inner
+  pub all : looked ≡ pool.metaslabs
+
+-- a size that a block may have
+abbrev pub IsBlockSize : ℕ → Type 0
+IsBlockSize size = (0 < size) × (size ≤ 16777216)
+
+abbrev pub AllocLine : Ground → ℕ → ℕ → Answer → List Event → Type 0
+AllocLine pool lane size (Granted group copies) es = IsBlockSize size × IsGranted pool lane size group copies es
+AllocLine pool lane size (NoSpace looked) es = IsBlockSize size × IsNoSpace pool lane size looked es
+AllocLine pool lane size BadSize es = ((size ≡ 0) ⊎ (16777216 < size)) × (es ≡ [])
+AllocLine pool lane size _ es = ⊥
+
+-- the metaslabs below a place were seen in order, each when it had settled the group
+pub data SeenSettled (group : Group) : ℕ → List Event → Type 0 where
+  none : SeenSettled group 0 []
+  more : (at : ℕ) (es : List Event) (before : List Noted) (by : ℕ) → SeenSettled group at es
+      → Contains before (record { lane = by; act = Settle group })
+      → SeenSettled group (at + 1) (es ++ (at_metaslab at (look before) ∷ []))
+
+-- `done`: the lane closed the open group, and at return the gate and each metaslab had settled it
+pub record IsSynced (pool : Ground) (lane : ℕ) (group : Group) (es : List Event) : Type 0 where
+  pub before : List GateNote
+  pub is_open : group.0 ≡ open_group pool.opened before
+  pub seen : List Event
+  pub settled : SeenSettled group pool.metaslabs seen
+  pub after : List GateNote
+  pub gate_settled : Contains after (Settled group)
+  pub whole : es ≡ at_gate (noting before (Closed lane group)) ∷ (seen ++ (at_gate (look after) ∷ []))
+
+-- `device`: the lane closed the open group, and the device failed
+pub record IsFailed (pool : Ground) (lane low high : ℕ) (es : List Event) : Type 0 where
+  pub before : List GateNote
+  pub group : Group
+  pub is_open : group.0 ≡ open_group pool.opened before
+  pub rose : Rose low high
+  pub whole : es ≡ at_gate (noting before (Closed lane group)) ∷ []
+
+-- a sync goes on only while no fault is kept; from then on each answers the first one
+abbrev pub SyncLine : Ground → ℕ → Option First → Answer → List Event → Type 0
+SyncLine pool lane None (Done group) es = IsSynced pool lane group es
+SyncLine pool lane None (Device low high) es = IsFailed pool lane low high es
+SyncLine pool lane (Some first) (Suspended kept) es = (kept ≡ first) × (es ≡ [])
+SyncLine pool lane _ _ es = ⊥
+
+-- the line of one command, behind the replies of the commands before it
+abbrev pub WhatLine : Ground → ℕ → List Replied → What → Answer → List Event → Type 0
+WhatLine pool lane done (Alloc _ size _ _) answer es = AllocLine pool lane size answer es
+WhatLine pool lane done Sync answer es = SyncLine pool lane (first_fault done) answer es
+
+pub record Line (pool : Ground) (done : List Replied) (r : Replied) (es : List Event) : Type 0 where
+  pub lane : r.reply.lane ≡ r.command.lane
+  pub what : WhatLine pool r.command.lane done r.command.what r.reply.answer es
+
+-- the lines of all commands, one behind the other
+pub data Lines (pool : Ground) : List Replied → List Event → Type 0 where
+  none : Lines pool [] []
+  more : (done : List Replied) (es : List Event) (r : Replied) (es_of : List Event)
+      → Lines pool done es → Line pool done r es_of → Lines pool (done ++ (r ∷ [])) (es ++ es_of)
+
+-- the intervals of `device` replies lie one behind the other, between the device's counts at two moments
+abbrev pub AreIntervals : ℕ → ℕ → List Answer → Type 0
+AreIntervals low high [] = low ≤ high
+AreIntervals low high (Device before after ∷ rest) = (low ≤ before) × (Rose before after × AreIntervals after high rest)
+AreIntervals low high (_ ∷ rest) = AreIntervals low high rest
+
+-- a lane's replies are backed by the journals of the gate and of the metaslabs, in the pool's order
+pub record AreBacked (pool : Ground) (lane : ℕ) (done : List Replied) (gate : List GateNote) (metaslabs : List (List Noted)) : Type 0 where
+  pub events : List Event
+  pub lines : Lines pool done events
+  pub at_the_gate : Follows gate_right lane [] (gate_steps events) gate
+  pub each : (k : ℕ) (h : List Noted) → slice_get metaslabs k ≡ Some h → Follows right_of lane [] (metaslab_steps k events) h

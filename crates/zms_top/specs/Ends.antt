@@ -1,0 +1,159 @@
+-- How a call ends: each way, with its cause.
+use Rattle.std.specs.Prelude.{◌≡◌, ℕ, ◌*◌, ◌<◌, Bool, true, false, Option, Some, None, IsSome, Result, Ok, Err, List, [], ◌∷◌, length, take, replicate}
+use Rattle.std.specs.List.{list_any}
+use Rattle.zms_units.specs.declared.segments.Group.{Group}
+use Rattle.zms_units.specs.declared.places.Class.TheVariants.{Normal}
+use Rattle.ms_model.specs.Origin.{Origin}
+use Rattle.ms_model.specs.Units.{settled_group}
+use Rattle.ms_model.specs.Legal.{IsLegal}
+use Rattle.ms_model.specs.Counts.{units_in, live_units, deferred_units, vacant_units}
+use Rattle.ms_model.specs.Gates.{synced_group, IsGateLegal}
+use Rattle.ms_model.specs.declared.journals.MsJournal.{MsJournal}
+use Rattle.ms_model.specs.declared.journals.Journals.{Journals}
+use Rattle.zms_dev.specs.Causes.{Rose}
+use Rattle.zms_dev.specs.Disk.{DiskState, Tells, bytes_of}
+use Rattle.zms_dev.specs.Stream.{told}
+use Rattle.zms_dev.specs.declared.failed.Failed.{Failed}
+use Rattle.zms_top.specs.Script.{IsFile, IsFirstBad}
+use Rattle.zms_top.specs.Record.{HasRecord, HasNoRecord, is_set, bit_bytes}
+use Rattle.zms_top.specs.Answers.{paired}
+use Rattle.zms_top.specs.Texts.{run_text, created_text}
+use Rattle.zms_top.specs.Pieces.{Prints}
+use Rattle.zms_top.specs.Backing.{AreBacked, AreIntervals}
+use Rattle.zms_top.specs.Sound.{ground_of, IsRecorded}
+use Rattle.zms_top.specs.Running.{answers_of}
+use Rattle.zms_top.specs.declared.tally.Tally.{Tally}
+use Rattle.zms_top.specs.declared.script.Command.{Command}
+use Rattle.zms_top.specs.declared.replies.Answer.{Answer}
+use Rattle.zms_top.specs.declared.replies.Reply.{Reply}
+use Rattle.zms_top.specs.declared.replies.Answer.TheVariants.{Device}
+use Rattle.zms_top.specs.declared.status.Status.{Status}
+use Rattle.zms_top.specs.declared.status.Status.TheVariants.{Done, BadText, ReadFault, WriteFault, DeviceFault, NotAPool, Memory}
+use Rattle.zms_top.specs.declared.status.PoolCause.TheVariants.{Open, AlreadyPool}
+use Rattle.zms_top.specs.declared.status.OpenCause.TheVariants.{NoSlot}
+use Rattle.zms_top.specs.declared.status.RunLists.{RunLists}
+
+-- the text of a command file, as far as it is read: one byte more than the limit shows that there is more
+abbrev pub text_of : Option (List ℕ) → List ℕ
+text_of left = take 16777217 (told left)
+
+-- why a command file was not read: the source failed, a line is bad, or memory ran out
+abbrev pub IsReadEnd : Option (List ℕ) → ℕ → ℕ → Status → Type 0
+IsReadEnd left low high ReadFault = Rose low high
+IsReadEnd left low high (BadText line) = IsSome left → IsFirstBad (text_of left) line
+IsReadEnd left low high Memory = Unit {0}
+IsReadEnd left low high _ = ⊥
+
+-- why a pool was not opened: the device failed, it has no record, or memory ran out
+abbrev pub IsOpenEnd : DiskState → ℕ → ℕ → Status → Type 0
+IsOpenEnd start low high DeviceFault = Rose low high
+IsOpenEnd start low high (NotAPool (Open NoSlot)) = Tells start → HasNoRecord (bytes_of start)
+IsOpenEnd start low high Memory = Unit {0}
+IsOpenEnd start low high _ = ⊥
+
+abbrev pub is_device : Answer → Bool
+is_device (Device _ _) = true
+is_device _ = false
+
+-- is some reply `device`?
+abbrev pub any_device : List Reply → Bool
+any_device replies = list_any (λ r. is_device r.answer) replies
+
+-- the metaslab as its pool was opened: what it held then is what the device's record has
+pub record IsOrigin (start : DiskState) (o : Origin) : Type 0 where
+  pub shift : o.ashift ≡ 12
+  pub record_has : Tells start → HasRecord (bytes_of start) o.opened o.units
+  pub base : Tells start → (u : ℕ) → u < o.units → o.base u ≡ is_set (bytes_of start) u
+
+-- what a run of one metaslab hands back: the metaslab's journal is a legal history on its base, and the gate's is legal too
+pub record AreShipped (o : Origin) (journals : Journals) (lists : RunLists) (journal : MsJournal) : Type 0 where
+  pub opened : journals.opened.0 ≡ o.opened
+  pub only : journals.metaslabs ≡ journal ∷ []
+  pub no_class : journals.classes ≡ []
+  pub no_keeper : journals.keeper ≡ []
+  pub id : journal.id ≡ record { vdev = 0; index = 0 }
+  pub units : journal.units ≡ o.units
+  pub ashift : journal.ashift ≡ o.ashift
+  pub held : journal.held ≡ units_in o.base o.units
+  pub legal : IsLegal o journal.notes
+  pub gate_legal : IsGateLegal o.opened lists.gate
+  pub device_notes : lists.device_notes ≡ replicate 16 []
+
+-- the totals of the one metaslab, by its journal
+pub record IsTallyOf (o : Origin) (journal : MsJournal) (tally : Tally) : Type 0 where
+  pub id : tally.id ≡ journal.id
+  pub class : tally.class ≡ Normal
+  pub ashift : tally.ashift ≡ o.ashift
+  pub live : tally.live ≡ live_units o journal.notes
+  pub deferred : tally.deferred ≡ deferred_units o journal.notes
+  pub vacant : tally.vacant ≡ vacant_units o journal.notes
+
+-- an image has a record of group 4 with so many units, none of them held
+pub record IsEmptyRecord (image : List ℕ) (units : ℕ) : Type 0 where
+  pub has : HasRecord image 4 units
+  pub bits : (u : ℕ) → u < 8 * bit_bytes units → is_set image u ≡ false
+
+-- the status of lanes that ran: a device fault where a reply names one, else whether all was printed
+abbrev pub end_status : {T E : Type 0} → Bool → Result T E → Status
+end_status true _ = DeviceFault
+end_status false (Ok _) = Done
+end_status false (Err _) = WriteFault
+
+-- what the lanes leave where memory was there: every command has its reply, the replies are backed by the journals, the text
+-- of the replies and totals was printed, and the device has what was committed
+pub record LanesDid (commands : List Command) (taken_before taken_now : Option (List ℕ)) (sink_low sink_high : ℕ) (start now : DiskState) (low high : ℕ) (o : Origin) (journal : MsJournal) (lists : RunLists) (status : Status) : Type 0 where
+  pub each : length lists.replies ≡ length commands
+  pub backed : AreBacked (ground_of o) 1 (paired commands lists.replies) lists.gate (journal.notes ∷ [])
+  pub settled : synced_group o.opened lists.gate ≡ settled_group o journal.notes
+  pub intervals : AreIntervals low high (answers_of lists.replies)
+  pub tally : Tally
+  pub tally_is : IsTallyOf o journal tally
+  pub group : Group
+  pub group_is : group.0 ≡ settled_group o journal.notes
+  pub printed : Result (Unit {0}) Failed
+  pub prints : Prints taken_before taken_now sink_low sink_high (run_text (paired commands lists.replies) (tally ∷ []) group.0) printed
+  pub status_is : status ≡ end_status (any_device lists.replies) printed
+  pub device : any_device lists.replies ≡ false → Tells start → IsRecorded start now o journal.notes
+
+-- the device was not written
+pub record IsUnwritten (start now : DiskState) : Type 0 where
+  pub tells : Tells now
+  pub same : bytes_of now ≡ bytes_of start
+  pub unchanged : (c : List ℕ) → now.may_leave c → start.may_leave c
+
+-- the ways in which a run ends
+pub data RunEnds (left taken_before taken_now : Option (List ℕ)) (source_low source_high sink_low sink_high : ℕ) (start now : DiskState) (low high : ℕ)
+    (status : Status) (journals : Option Journals) (lists : Option RunLists) : Type 0 where
+  -- the command file was not read
+  unread : IsReadEnd left source_low source_high status → (Tells start → IsUnwritten start now) → taken_now ≡ taken_before → journals ≡ None → lists ≡ None
+      → RunEnds left taken_before taken_now source_low source_high sink_low sink_high start now low high status journals lists
+  -- it was read, and the pool was not opened
+  unopened : (commands : List Command) → (IsSome left → IsFile (text_of left) commands) → IsOpenEnd start low high status → (Tells start → IsUnwritten start now)
+      → taken_now ≡ taken_before → journals ≡ None → lists ≡ None
+      → RunEnds left taken_before taken_now source_low source_high sink_low sink_high start now low high status journals lists
+  -- lanes began, and memory ran out
+  cut_off : (o : Origin) (journal : MsJournal) (j : Journals) (l : RunLists) → IsOrigin start o → AreShipped o j l journal → status ≡ Memory → taken_now ≡ taken_before
+      → journals ≡ Some j → lists ≡ Some l
+      → RunEnds left taken_before taken_now source_low source_high sink_low sink_high start now low high status journals lists
+  -- all lanes ran
+  ran : (commands : List Command) → (IsSome left → IsFile (text_of left) commands) → (o : Origin) (journal : MsJournal) (j : Journals) (l : RunLists) → IsOrigin start o → AreShipped o j l journal
+      → LanesDid commands taken_before taken_now sink_low sink_high start now low high o journal l status → journals ≡ Some j → lists ≡ Some l
+      → RunEnds left taken_before taken_now source_low source_high sink_low sink_high start now low high status journals lists
+
+-- the ways in which the record of a new pool is written
+pub data WritesNew (units : ℕ) (taken_before taken_now : Option (List ℕ)) (sink_low sink_high : ℕ) (start now : DiskState) (low high : ℕ) : Status → Type 0 where
+  device : Rose low high → taken_now ≡ taken_before → WritesNew units taken_before taken_now sink_low sink_high start now low high DeviceFault
+  memory : (Tells start → IsUnwritten start now) → taken_now ≡ taken_before → WritesNew units taken_before taken_now sink_low sink_high start now low high Memory
+  written : (Tells start → (c : List ℕ) → now.may_leave c → IsEmptyRecord c units)
+      → (printed : Result (Unit {0}) Failed) → Prints taken_before taken_now sink_low sink_high created_text printed
+      → WritesNew units taken_before taken_now sink_low sink_high start now low high (end_status false printed)
+
+-- the ways in which a creation ends
+pub data CreateEnds (units : ℕ) (taken_before taken_now : Option (List ℕ)) (sink_low sink_high : ℕ) (start now : DiskState) (low high : ℕ) : Status → Type 0 where
+  already : (group : Group) → (Tells start → (old_units : ℕ) × HasRecord (bytes_of start) group.0 old_units) → (Tells start → IsUnwritten start now) → taken_now ≡ taken_before
+      → CreateEnds units taken_before taken_now sink_low sink_high start now low high (NotAPool (AlreadyPool group))
+  device : Rose low high → taken_now ≡ taken_before → CreateEnds units taken_before taken_now sink_low sink_high start now low high DeviceFault
+  memory : (Tells start → IsUnwritten start now) → taken_now ≡ taken_before → CreateEnds units taken_before taken_now sink_low sink_high start now low high Memory
+  created : (Tells start → HasNoRecord (bytes_of start)) → (Tells start → (c : List ℕ) → now.may_leave c → IsEmptyRecord c units)
+      → (printed : Result (Unit {0}) Failed) → Prints taken_before taken_now sink_low sink_high created_text printed
+      → CreateEnds units taken_before taken_now sink_low sink_high start now low high (end_status false printed)

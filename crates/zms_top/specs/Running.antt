@@ -1,0 +1,25 @@
+-- What a whole run of a lane's commands did.
+use Rattle.std.specs.Prelude.{◌≡◌, ◌+◌, ◌≤◌, List, map, length}
+use Rattle.ms_model.specs.Gates.{open_group}
+use Rattle.ms_model.specs.Events.{Event}
+use Rattle.ms_core.specs.State.{origin_of, StaysButNotes}
+use Rattle.zms_top.specs.Answers.{Replied, first_fault}
+use Rattle.zms_top.specs.Backing.{Lines}
+use Rattle.zms_top.specs.Sound.{Tour, ground_of}
+use Rattle.zms_top.specs.Acting.{IsPool}
+use Rattle.zms_top.specs.declared.pool.Pool.{Pool}
+use Rattle.zms_top.specs.declared.replies.Answer.{Answer}
+use Rattle.zms_top.specs.declared.replies.Reply.{Reply}
+
+abbrev pub answers_of : List Reply → List Answer
+answers_of replies = map (λ r. r.answer) replies
+
+-- lane 1 took a pool from one state to another by these commands, with these replies
+pub record HasRun (p q : Pool) (done : List Replied) : Type 0 where
+  pub events : List Event
+  pub tour : Tour 1 events p.metaslab.notes q.metaslab.notes p.gate.notes q.gate.notes
+  pub lines : Lines (ground_of (origin_of p.metaslab)) done events
+  pub pool : IsPool q
+  pub stays : StaysButNotes p.metaslab q.metaslab
+  pub rises : open_group q.gate.opened q.gate.notes ≤ open_group p.gate.opened p.gate.notes + length done
+  pub fault : first_fault done ≡ q.first

@@ -1,0 +1,79 @@
+-- What is handed over and printed when the lanes are done.
+use Rattle.std.specs.Prelude.{◌≡◌, ℕ, Option, Some, Result, List, [], ◌∷◌, replicate}
+use Rattle.zms_units.specs.Segments.{covered}
+use Rattle.zms_units.specs.declared.segments.Group.{Group}
+use Rattle.zms_units.specs.declared.places.Class.TheVariants.{Normal}
+use Rattle.ms_model.specs.Legal.{IsLegal}
+use Rattle.ms_model.specs.Counts.{units_in, live_units, deferred_units, vacant_units}
+use Rattle.ms_model.specs.Gates.{IsGateLegal}
+use Rattle.ms_model.specs.declared.journals.MsJournal.{MsJournal}
+use Rattle.ms_model.specs.declared.journals.Journals.{Journals}
+use Rattle.ms_core.specs.State.{origin_of, settled_of}
+use Rattle.zms_dev.specs.declared.failed.Failed.{Failed}
+use Rattle.zms_top.specs.Answers.{Replied}
+use Rattle.zms_top.specs.Pieces.{Prints}
+use Rattle.zms_top.specs.Texts.{run_text}
+use Rattle.ms_model.specs.Origin.{Origin}
+use Rattle.zms_dev.specs.Disk.{DiskState}
+use Rattle.zms_top.specs.Ends.{any_device, end_status, AreShipped, LanesDid}
+use Rattle.zms_top.specs.declared.script.Command.{Command}
+use Rattle.zms_top.specs.declared.status.Status.TheVariants.{Memory}
+use Rattle.zms_top.specs.declared.pool.Pool.{Pool}
+use Rattle.zms_top.specs.declared.tally.Tally.{Tally}
+use Rattle.zms_top.specs.declared.replies.Reply.{Reply}
+use Rattle.zms_top.specs.declared.status.RunLists.{RunLists}
+use Rattle.zms_top.specs.declared.status.Status.{Status}
+
+-- the pool's journals are handed over, with the replies
+pub record HandsOver (p : Pool) (replies : List Reply) (journals : Journals) (lists : RunLists) : Type 0 where
+  pub journal : MsJournal
+  pub opened : journals.opened.0 ≡ p.gate.opened
+  pub only : journals.metaslabs ≡ journal ∷ []
+  pub no_class : journals.classes ≡ []
+  pub no_keeper : journals.keeper ≡ []
+  pub id : journal.id ≡ p.metaslab.id
+  pub units : journal.units ≡ p.metaslab.units
+  pub ashift : journal.ashift ≡ p.metaslab.ashift
+  pub held : journal.held ≡ units_in (covered p.metaslab.base) p.metaslab.units
+  pub notes : journal.notes ≡ p.metaslab.notes
+  pub legal : IsLegal (origin_of p.metaslab) p.metaslab.notes
+  pub replies_are : lists.replies ≡ replies
+  pub gate : lists.gate ≡ p.gate.notes
+  pub gate_legal : IsGateLegal p.gate.opened p.gate.notes
+  pub device_notes : lists.device_notes ≡ replicate 16 []
+
+-- the totals of the pool's metaslab
+pub record IsTally (p : Pool) (tally : Tally) : Type 0 where
+  pub id : tally.id ≡ p.metaslab.id
+  pub class : tally.class ≡ Normal
+  pub ashift : tally.ashift ≡ p.metaslab.ashift
+  pub live : tally.live ≡ live_units (origin_of p.metaslab) p.metaslab.notes
+  pub deferred : tally.deferred ≡ deferred_units (origin_of p.metaslab) p.metaslab.notes
+  pub vacant : tally.vacant ≡ vacant_units (origin_of p.metaslab) p.metaslab.notes
+
+-- the replies and totals are printed, and the status says how the lanes ended
+pub record Reports (p : Pool) (done : List Replied) (replies : List Reply) (taken_before taken_now : Option (List ℕ)) (low high : ℕ) (status : Status) : Type 0 where
+  pub tally : Tally
+  pub tally_is : IsTally p tally
+  pub group : Group
+  pub group_is : group.0 ≡ settled_of p.metaslab
+  pub printed : Result (Unit {0}) Failed
+  pub prints : Prints taken_before taken_now low high (run_text done (tally ∷ []) group.0) printed
+  pub status_is : status ≡ end_status (any_device replies) printed
+
+-- the same, where there is something to hand over
+pub record HasHandedOver (p : Pool) (replies : List Reply) (journals : Option Journals) (lists : Option RunLists) : Type 0 where
+  pub some_journals : Journals
+  pub some_lists : RunLists
+  pub journals_are : journals ≡ Some some_journals
+  pub lists_are : lists ≡ Some some_lists
+  pub handed : HandsOver p replies some_journals some_lists
+
+-- lanes that began either met want of memory or ran to their end
+pub data LanesEnd (o : Origin) (commands : List Command) (taken_before taken_now : Option (List ℕ)) (sink_low sink_high : ℕ) (start now : DiskState) (low high : ℕ)
+    (status : Status) (journals : Option Journals) (lists : Option RunLists) : Type 0 where
+  cut_off : (journal : MsJournal) (j : Journals) (l : RunLists) → AreShipped o j l journal → status ≡ Memory → taken_now ≡ taken_before → journals ≡ Some j → lists ≡ Some l
+      → LanesEnd o commands taken_before taken_now sink_low sink_high start now low high status journals lists
+  ran : (journal : MsJournal) (j : Journals) (l : RunLists) → AreShipped o j l journal
+      → LanesDid commands taken_before taken_now sink_low sink_high start now low high o journal l status → journals ≡ Some j → lists ≡ Some l
+      → LanesEnd o commands taken_before taken_now sink_low sink_high start now low high status journals lists

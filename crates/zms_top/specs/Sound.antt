@@ -1,0 +1,56 @@
+-- What a run keeps true between two commands.
+use Rattle.std.specs.Prelude.{◌≡◌, ◌≢◌, ℕ, ◌+◌, ◌*◌, ◌<◌, ◌≤◌, Bool, true, false, Option, None, List, [], ◌∷◌, ◌++◌}
+use Rattle.std.specs.List.{All}
+use Rattle.zms_units.specs.declared.faults.First.{First}
+use Rattle.ms_model.specs.Origin.{Origin}
+use Rattle.ms_model.specs.Units.{held, settled_group, collected_group, is_loaded}
+use Rattle.ms_model.specs.Legal.{IsLegal}
+use Rattle.ms_model.specs.Steps.{Follows}
+use Rattle.ms_model.specs.Parts.{right_of, gate_right}
+use Rattle.ms_model.specs.Gates.{open_group, synced_group}
+use Rattle.ms_model.specs.Events.{Event, gate_steps, metaslab_steps}
+use Rattle.ms_model.specs.declared.notes.Act.TheVariants.{Load, Unload}
+use Rattle.ms_model.specs.declared.notes.Noted.{Noted}
+use Rattle.ms_model.specs.declared.notes.GateNote.{GateNote}
+use Rattle.zms_dev.specs.Disk.{DiskState, Tells, bytes_of}
+use Rattle.zms_top.specs.Backing.{Ground}
+use Rattle.zms_top.specs.Record.{IsRecord, is_set, bit_bytes}
+
+-- a pool of one metaslab
+abbrev pub ground_of : Origin → Ground
+ground_of o = record { opened = o.opened; ashift = o.ashift; units = o.units; metaslabs = 1 }
+
+-- the metaslab's journal is legal, the gate's says the same of groups, and while no fault is kept the bits in memory are
+-- what the last group holds
+pub record IsSound (o : Origin) (h : List Noted) (g : List GateNote) (set : ℕ → Bool) (first : Option First) : Type 0 where
+  pub legal : IsLegal o h
+  pub kept : All (λ note. note.act ≢ Unload) h
+  pub synced : synced_group o.opened g ≡ settled_group o h
+  pub next : open_group o.opened g ≡ collected_group o h + 1
+  pub behind : collected_group o h ≤ settled_group o h + 1
+  pub level : first ≡ None → collected_group o h ≡ settled_group o h
+  pub bits : first ≡ None → (u : ℕ) → u < o.units → set u ≡ held o h (settled_group o h) u
+
+-- what a lane did between two states of the journals
+pub record Tour (lane : ℕ) (es : List Event) (h j : List Noted) (g k : List GateNote) : Type 0 where
+  pub metaslab : Follows right_of lane h (metaslab_steps 0 es) j
+  pub gate : Follows gate_right lane g (gate_steps es) k
+
+-- free space was brought into memory, or was there already
+pub data Loads (lane : ℕ) (h : List Noted) : List Noted → Type 0 where
+  loaded : is_loaded h ≡ true → Loads lane h h
+  loads : is_loaded h ≡ false → Loads lane h (h ++ (record { lane = lane; act = Load } ∷ []))
+
+-- an image has the record of the last settled group, with exactly the units that this group holds, and zeros behind them
+pub record HoldsGroup (image : List ℕ) (o : Origin) (h : List Noted) : Type 0 where
+  pub is : IsRecord image (settled_group o h) o.units
+  pub bits : (u : ℕ) → u < o.units → is_set image u ≡ held o h (settled_group o h) u
+  pub padding : (u : ℕ) → o.units ≤ u → u < 8 * bit_bytes o.units → is_set image u ≡ false
+
+-- the device is as a run found it while nothing was committed; and from the first commit on every image that a stop may
+-- leave holds the last settled group
+pub record IsRecorded (start now : DiskState) (o : Origin) (h : List Noted) : Type 0 where
+  pub tells : Tells now
+  pub untouched : settled_group o h ≡ o.opened → bytes_of now ≡ bytes_of start
+  pub unchanged : settled_group o h ≡ o.opened → (c : List ℕ) → now.may_leave c → start.may_leave c
+  pub stored : o.opened < settled_group o h → (c : List ℕ) → now.may_leave c → HoldsGroup c o h

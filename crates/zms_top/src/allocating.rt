@@ -1,0 +1,56 @@
+//! The command `alloc`.
+
+ghost use Rattle.std.specs.Prelude.{◌≡◌, ℕ, ◌+◌, ◌^◌, ◌<◌, ◌≤◌, [], ◌∷◌, IfOk};
+ghost use Rattle.ms_model.specs.Gates.{open_group};
+ghost use Rattle.ms_core.specs.State.{origin_of, StaysButNotes};
+ghost use Rattle.zms_top.specs.Answers.{IsOfAlloc};
+ghost use Rattle.zms_top.specs.Backing.{AllocLine, dva_at};
+ghost use Rattle.zms_top.specs.Sound.{ground_of};
+ghost use Rattle.zms_top.specs.Acting.{Acted, IsPool, LeavesSettled};
+
+use crate::Answer;
+use crate::look::look;
+use crate::pool::{ASHIFT, Pool};
+use std::alloc::{AllocError, Global};
+use zms_units::{Class, Copies, Dva, Seg, units_of};
+
+/// Where a segment of the pool's one metaslab lies.
+fn place_of(seg: Seg) -> Dva
+    requires { seg.start + seg.count < 2 ^ 32 }
+    ensures { (opened units metaslabs : ℕ) → result ≡ dva_at (record { opened = opened; ashift = 12; units = units; metaslabs = metaslabs }) 0 seg }
+{
+    Dva {
+        class: Class::Normal,
+        vdev: 0,
+        offset: u64::from(seg.start) << ASHIFT,
+        size: u64::from(seg.count) << ASHIFT,
+    }
+}
+
+/// One copy of a block of class normal, as `metaslab_alloc` grants it. A size that no block may have looks at nothing.
+pub(crate) fn alloc(
+    alloc: Global,
+    pool: &mut Pool,
+    lane: u8,
+    size: u64,
+) -> Result<Answer, AllocError>
+    requires pool { IsPool pool.old }
+    requires lane { (1 ≤ lane) × (lane ≤ 16) }
+    ensures acted { IfOk result (λ answer. Acted pool.old pool.new lane (AllocLine (ground_of (origin_of pool.old.metaslab)) lane size answer)) }
+    ensures leaves { IfOk result (λ answer. LeavesSettled pool.old pool.new) }
+    ensures answer { IfOk result IsOfAlloc }
+    // Whatever is answered.
+    ensures stays { StaysButNotes pool.old.metaslab pool.new.metaslab }
+    ensures gate { pool.new.gate.opened ≡ pool.old.gate.opened }
+{
+    let Ok(count) = units_of(size, ASHIFT) else {
+        return Ok(Answer::BadSize);
+    };
+    let group = pool.gate.open_group();
+    let Some(seg) = look(&mut pool.metaslab, &pool.base, lane, group, count)? else {
+        return Ok(Answer::NoSpace { looked: 1 });
+    };
+    let mut copies = Copies::new(alloc);
+    copies.push(place_of(seg));
+    Ok(Answer::Granted { group, copies })
+}

@@ -1,0 +1,79 @@
+//! One lane: its commands in order, each with its reply.
+
+ghost use Rattle.std.specs.Prelude.{◌≡◌, ℕ, ◌+◌, ◌^◌, ◌<◌, ◌≤◌, List, [], ◌∷◌, ◌++◌, length, map, None, IfOk};
+ghost use Rattle.std.specs.List.{All};
+ghost use Rattle.ms_model.specs.Gates.{open_group};
+ghost use Rattle.ms_core.specs.State.{origin_of, StaysButNotes};
+ghost use Rattle.zms_dev.specs.Disk.{Tells};
+ghost use Rattle.zms_top.specs.Script.{IsCommand};
+ghost use Rattle.zms_top.specs.Answers.{Replied, first_with, first_fault, paired};
+ghost use Rattle.zms_top.specs.Backing.{WhatLine, AreIntervals};
+ghost use Rattle.zms_top.specs.Sound.{ground_of};
+ghost use Rattle.zms_top.specs.Acting.{Acted, IsPool, IsKept};
+ghost use Rattle.zms_top.specs.Running.{HasRun, answers_of};
+
+use crate::allocating::alloc;
+use crate::pool::Pool;
+use crate::syncing::sync;
+use crate::{Answer, Command, Reply, What};
+use std::alloc::{AllocError, Global};
+use zms_dev::{Disk, Meet};
+
+/// Runs one command.
+fn run_command<D: Disk>(
+    alloc_from: Global,
+    pool: &mut Pool,
+    disk: &mut D,
+    lane: u8,
+    what: &What,
+) -> Result<Answer, AllocError>
+    requires pool { IsPool pool.old }
+    requires lane { (1 ≤ lane) × (lane ≤ 16) }
+    requires small { open_group pool.old.gate.opened pool.old.gate.notes < 2 ^ 63 }
+    ensures acted { (done : List Replied) → first_fault done ≡ pool.old.first → IfOk result (λ answer. Acted pool.old pool.new lane (WhatLine (ground_of (origin_of pool.old.metaslab)) lane done what.now answer)) }
+    ensures first { IfOk result (λ answer. pool.new.first ≡ first_with pool.old.first answer) }
+    ensures intervals { IfOk result (λ answer. AreIntervals (D.faults disk.old) (D.faults disk.new) (answer ∷ [])) }
+    ensures kept { Tells (D.state disk.old) → IfOk result (λ answer. pool.new.first ≡ None → IsKept (origin_of pool.old.metaslab) pool.old.metaslab.notes pool.new.metaslab.notes (D.state disk.old) (D.state disk.new)) }
+    ensures later { D.faults disk.old ≤ D.faults disk.new }
+    // Whatever is answered.
+    ensures stays { StaysButNotes pool.old.metaslab pool.new.metaslab }
+    ensures gate { pool.new.gate.opened ≡ pool.old.gate.opened }
+{
+    match what {
+        What::Alloc { size, .. } => alloc(alloc_from, pool, lane, *size),
+        What::Sync => sync(pool, disk, lane),
+    }
+}
+
+/// Runs the commands in order, each after a meeting. Linear in them, but for what each does.
+pub(crate) fn run_lane<D: Disk, M: Meet>(
+    alloc: Global,
+    pool: &mut Pool,
+    disk: &mut D,
+    commands: &[Command],
+    meet: &M,
+) -> Result<Vec<Reply>, AllocError>
+    requires pool { IsPool pool.old }
+    requires fresh { pool.old.first ≡ None }
+    requires commands { All IsCommand commands.now }
+    requires small { open_group pool.old.gate.opened pool.old.gate.notes + length commands.now < 2 ^ 63 }
+    ensures each { IfOk result (λ replies. length replies.items ≡ length commands.now) }
+    ensures ran { IfOk result (λ replies. HasRun pool.old pool.new (paired commands.now replies.items)) }
+    ensures intervals { IfOk result (λ replies. AreIntervals (D.faults disk.old) (D.faults disk.new) (answers_of replies.items)) }
+    ensures kept { Tells (D.state disk.old) → IfOk result (λ replies. pool.new.first ≡ None → IsKept (origin_of pool.old.metaslab) pool.old.metaslab.notes pool.new.metaslab.notes (D.state disk.old) (D.state disk.new)) }
+    ensures later { D.faults disk.old ≤ D.faults disk.new }
+    // Whatever is answered.
+    ensures stays { StaysButNotes pool.old.metaslab pool.new.metaslab }
+    ensures gate { pool.new.gate.opened ≡ pool.old.gate.opened }
+{
+    let mut replies = Vec::with_capacity(alloc, commands.len())?;
+    for command in commands {
+        meet.here(command.lane);
+        let answer = run_command(alloc, pool, disk, command.lane, &command.what)?;
+        replies.push(Reply {
+            lane: command.lane,
+            answer,
+        })?;
+    }
+    Ok(replies)
+}

@@ -1,0 +1,30 @@
+//! The calls of the program: a pool is created, and a run's commands are answered over it.
+//!
+//! What a call promises is the contract of `zms`: how it ends, each way with its cause (`specs/Causes.antt`), and for
+//! a run that each reply is backed by the journals of the metaslab and of the gate, that both are legal, that what was
+//! printed is the text of the replies and of the journal's totals, and that each image which a stop now may leave
+//! holds the last synced group (`specs/Ends.antt`).
+#![tactic(auto)]
+
+mod allocating;
+mod gate;
+mod lane;
+mod look;
+mod pool;
+mod printing;
+mod record;
+mod replies;
+mod run;
+mod script;
+mod shipping;
+mod status;
+mod syncing;
+mod tally;
+mod top;
+mod words;
+
+pub use replies::{Answer, Reply};
+pub use script::{Command, MAX_COMMANDS, MAX_TEXT_BYTES, Script, TextFault, What, read_commands};
+pub use status::{OpenCause, PoolCause, RunLists, Shipped, Status};
+pub use top::{zms, zms_still};
+pub use words::{Asked, pool_name, read_words};

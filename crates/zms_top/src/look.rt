@@ -1,0 +1,53 @@
+//! One look at the metaslab for an alloc.
+
+ghost use Rattle.std.specs.Prelude.{◌≡◌, ℕ, ◌+◌, ◌<◌, ◌≤◌, Bool, true, false, IfOk, OnOk, OnErr};
+ghost use Rattle.zms_units.specs.Segments.{covered, AreSegs};
+ghost use Rattle.ms_model.specs.Units.{held, is_loaded};
+ghost use Rattle.ms_core.specs.State.{origin_of, settled_of, collected_of, StaysButNotes};
+ghost use Rattle.zms_top.specs.Pooling.{IsLook};
+ghost use Rattle.zms_top.specs.Sound.{Loads};
+
+use ms_core::Metaslab;
+use std::alloc::AllocError;
+use zms_units::{Group, MAX_UNITS, Seg};
+
+/// Brings free space into memory where it is not there, from the runs that the settled groups hold.
+fn load_first(metaslab: &mut Metaslab, base: &[Seg], lane: u8) -> Result<(), AllocError>
+    requires lane { (1 ≤ lane) × (lane ≤ 16) }
+    requires segs { AreSegs metaslab.old.units base.now }
+    requires held { is_loaded metaslab.old.notes ≡ false → (u : ℕ) → u < metaslab.old.units → covered base.now u ≡ held (origin_of metaslab.old) metaslab.old.notes (settled_of metaslab.old) u }
+    ensures loads { OnOk result (Loads lane metaslab.old.notes metaslab.new.notes) }
+    ensures stays { StaysButNotes metaslab.old metaslab.new }
+{
+    if metaslab.loaded() {
+        return Ok(());
+    }
+    metaslab.load(lane, base)?;
+    Ok(())
+}
+
+/// Looks for `count` units in a row, bringing free space into memory first where it is not there. After an error the
+/// metaslab may be loaded.
+pub(crate) fn look(
+    metaslab: &mut Metaslab,
+    base: &[Seg],
+    lane: u8,
+    group: Group,
+    count: u32,
+) -> Result<Option<Seg>, AllocError>
+    requires lane { (1 ≤ lane) × (lane ≤ 16) }
+    requires above { collected_of metaslab.old < group.0 }
+    requires near { group.0 ≤ settled_of metaslab.old + 3 }
+    requires count { (1 ≤ count) × (count ≤ MAX_UNITS) }
+    requires segs { AreSegs metaslab.old.units base.now }
+    requires held { is_loaded metaslab.old.notes ≡ false → (u : ℕ) → u < metaslab.old.units → covered base.now u ≡ held (origin_of metaslab.old) metaslab.old.notes (settled_of metaslab.old) u }
+    ensures look { IfOk result (λ found. IsLook (origin_of metaslab.old) lane group count metaslab.old.notes metaslab.new.notes found) }
+    ensures stays { StaysButNotes metaslab.old metaslab.new }
+{
+    load_first(metaslab, base, lane)?;
+    metaslab.ready()?;
+    match metaslab.grant(lane, group, count) {
+        Ok(found) => Ok(found),
+        Err(_) => unreachable!(),
+    }
+}

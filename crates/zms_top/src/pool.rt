@@ -1,0 +1,25 @@
+//! A pool as a run keeps it: one metaslab, the gate, and the record that is committed to the device.
+
+use crate::gate::Gate;
+use crate::record::FirstRecord;
+use ms_core::{Metaslab, RunBuf};
+use zms_units::{First, MsId, Seg};
+
+/// The shift of the one vdev's units: 4096 bytes.
+pub(crate) const ASHIFT: u8 = 12;
+
+/// The one metaslab of a pool.
+pub(crate) const FIRST_METASLAB: MsId = MsId { vdev: 0, index: 0 };
+
+/// What a run keeps of its pool between two commands.
+#[derive(Drop)]
+pub(crate) struct Pool {
+    pub(crate) metaslab: Metaslab,
+    pub(crate) gate: Gate,
+    pub(crate) record: FirstRecord,
+    // What the opened group holds, from which the metaslab is loaded.
+    pub(crate) base: Vec<Seg>,
+    pub(crate) buf: RunBuf,
+    // The first fault of the device, after which it is written no more.
+    pub(crate) first: Option<First>,
+}

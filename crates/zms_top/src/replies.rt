@@ -1,0 +1,27 @@
+//! What the lanes answer.
+
+use zms_units::{Copies, First, Group};
+
+/// The answer to one command.
+#[derive(Debug, Drop)]
+pub enum Answer {
+    /// An alloc was granted in this group: where its copies lie.
+    Granted { group: Group, copies: Copies },
+    /// No metaslab had room: how many were looked at.
+    NoSpace { looked: u64 },
+    /// The size is 0, or larger than a block may be.
+    BadSize,
+    /// A sync made all groups up to this one lasting.
+    Done { group: Group },
+    /// A call of the pool device failed: its count of faults before and after.
+    Device { before: u64, after: u64 },
+    /// The pool device isn't written any more, since this happened.
+    Suspended { first: First },
+}
+
+/// The reply to one command, with its lane.
+#[derive(Debug, Drop)]
+pub struct Reply {
+    pub lane: u8,
+    pub answer: Answer,
+}

@@ -1,0 +1,131 @@
+//! What a run hands back when its lanes are done.
+
+ghost use Rattle.std.specs.Prelude.{◌≡◌, ℕ, ◌<◌, ◌≤◌, [], ◌∷◌, length, replicate, vec_capacity, vec_len, IfOk};
+ghost use Rattle.ms_model.specs.Counts.{live_units, deferred_units, vacant_units};
+ghost use Rattle.ms_core.specs.State.{origin_of};
+ghost use Rattle.zms_top.specs.Answers.{paired};
+ghost use Rattle.zms_top.specs.Ends.{any_device, is_device as names_device};
+ghost use Rattle.zms_top.specs.Shipping.{HandsOver, IsTally, Reports};
+
+use crate::pool::{ASHIFT, FIRST_METASLAB, Pool};
+use crate::printing::write_run;
+use crate::status::{RunLists, Status};
+use crate::tally::Tally;
+use crate::{Answer, Command, Reply};
+use ms_model::{DeviceNote, Journals, MsJournal};
+use std::alloc::{AllocError, Global};
+use zms_dev::Sink;
+use zms_units::{Class, Items};
+
+/// How many data devices a pool has.
+const DEVICES: usize = 16;
+
+/// The room of the lists that a run hands back, taken before its lanes begin.
+#[derive(Drop)]
+pub(crate) struct Room {
+    metaslabs: Vec<MsJournal>,
+    device_notes: Vec<Items<DeviceNote>>,
+    ghost empty: { metaslabs.items ≡ [] },
+    ghost enough: { 0 < vec_capacity metaslabs },
+    ghost quiet: { device_notes.items ≡ replicate 16 [] },
+}
+
+fn quiet_devices(alloc: Global) -> Result<Vec<Items<DeviceNote>>, AllocError>
+    ensures { IfOk result (λ lists. lists.items ≡ replicate 16 []) }
+{
+    let mut lists = Vec::with_capacity(alloc, DEVICES)?;
+    'filling: while lists.len() < DEVICES {
+        lists.push(Items::new(alloc))?;
+    }
+    Ok(lists)
+}
+
+impl Room {
+    pub(crate) fn take(alloc: Global) -> Result<Room, AllocError> {
+        let metaslabs = Vec::with_capacity(alloc, 1)?;
+        let device_notes = quiet_devices(alloc)?;
+        Ok(Room {
+            metaslabs,
+            device_notes,
+        })
+    }
+}
+
+/// The journals and lists of a run whose lanes are done. Takes no memory.
+pub(crate) fn hand_over(
+    alloc: Global,
+    pool: Pool,
+    room: Room,
+    replies: Items<Reply>,
+) -> (Journals, RunLists)
+    requires { pool.gate.opened ≡ pool.metaslab.opened }
+    ensures { HandsOver pool replies result.0 result.1 }
+{
+    let opened = pool.gate.opened();
+    let mut metaslabs = room.metaslabs;
+    metaslabs.push_reserved(pool.metaslab.into_journal());
+    let journals = Journals {
+        opened,
+        metaslabs: Items::from_vec(metaslabs),
+        classes: Items::new(alloc),
+        keeper: Items::new(alloc),
+    };
+    let lists = RunLists {
+        replies,
+        gate: Items::from_vec(pool.gate.into_notes()),
+        device_notes: Items::from_vec(room.device_notes),
+    };
+    (journals, lists)
+}
+
+/// What the totals need of the pool's metaslab.
+fn tally_of(pool: &Pool) -> Tally
+    requires shift { pool.now.metaslab.ashift ≡ 12 }
+    requires id { pool.now.metaslab.id ≡ record { vdev = 0; index = 0 } }
+    ensures { IsTally pool.now result }
+{
+    let counts = pool.metaslab.counts();
+    Tally {
+        id: FIRST_METASLAB,
+        class: Class::Normal,
+        ashift: ASHIFT,
+        live: counts.live,
+        deferred: counts.deferred,
+        vacant: counts.vacant,
+    }
+}
+
+fn is_device(answer: &Answer) -> bool
+    ensures { result ≡ names_device answer.now }
+{
+    matches!(answer, Answer::Device { .. })
+}
+
+fn has_device(replies: &[Reply]) -> bool
+    ensures { result ≡ any_device replies.now }
+{
+    replies.iter().any(|reply| is_device(&reply.answer))
+}
+
+/// Prints the replies and totals, and tells how the lanes ended. Takes no memory.
+pub(crate) fn report<K: Sink>(
+    out: &mut K,
+    pool: &Pool,
+    commands: &[Command],
+    replies: &[Reply],
+) -> Status
+    requires shift { pool.now.metaslab.ashift ≡ 12 }
+    requires id { pool.now.metaslab.id ≡ record { vdev = 0; index = 0 } }
+    requires each { length commands.now ≡ length replies.now }
+    ensures { Reports pool.now (paired commands.now replies.now) replies.now (K.taken out.old) (K.taken out.new) (K.faults out.old) (K.faults out.new) result }
+{
+    let tally = tally_of(pool);
+    let printed = write_run(out, commands, replies, &[tally], pool.metaslab.settled());
+    if has_device(replies) {
+        Status::DeviceFault
+    } else if printed.is_err() {
+        Status::WriteFault
+    } else {
+        Status::Done
+    }
+}

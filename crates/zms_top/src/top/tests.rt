@@ -1,0 +1,256 @@
+use super::*;
+use crate::status::OpenCause;
+use std::alloc::AllocError;
+use std::process::Abort;
+use std::test::Fail;
+use zms_dev::{DiskRoom, MemData, MemDisk, MemSink, MemSource, NoMeet, Room};
+
+const CREATE: &str = "create p normal:12:256:1";
+
+const RUN: &str = "run p";
+
+// Group 4, 256 units, none held.
+const EMPTY: &[u8] = b"ZMSPOOL0\x04\0\0\0\0\0\0\0\0\x01\0\0\0\0\0\0\
+    \0\0\0\0\0\0\0\0\0\0\0\0\0\0\0\0\0\0\0\0\0\0\0\0\0\0\0\0\0\0\0\0";
+
+// Group 5, with unit 0 held.
+const WITH_UNIT_0: &[u8] = b"ZMSPOOL0\x05\0\0\0\0\0\0\0\0\x01\0\0\0\0\0\0\
+    \x01\0\0\0\0\0\0\0\0\0\0\0\0\0\0\0\0\0\0\0\0\0\0\0\0\0\0\0\0\0\0\0";
+
+const TOTALS_OF_EMPTY: &str = "\
+metaslab 0 0 live 0 deferred 0 vacant 256
+class normal live 0 deferred 0 vacant 1048576
+pool live 0 deferred 0 vacant 1048576
+group 4
+";
+
+/// The number of a call that is never made.
+const NEVER: usize = usize::MAX;
+
+/// Which call of each object fails, the first being call 0.
+#[derive(Clone, Copy, Debug)]
+struct Failing {
+    source: usize,
+    sink: usize,
+    disk: usize,
+}
+
+const NOTHING_FAILS: Failing = Failing {
+    source: NEVER,
+    sink: NEVER,
+    disk: NEVER,
+};
+
+/// What a call answered, printed, and left on the pool device.
+#[derive(Drop)]
+struct Left {
+    status: Status,
+    printed: Vec<u8>,
+    device: Vec<u8>,
+}
+
+fn words_of(alloc: Global, text: &str) -> Result<Vec<String>, AllocError> {
+    let mut words = Vec::new(alloc);
+    for word in text.split_whitespace() {
+        words.push(String::from_str(alloc, word)?)?;
+    }
+    Ok(words)
+}
+
+fn disk(alloc: Global, bytes: &[u8], failing: usize) -> Result<MemDisk, AllocError> {
+    let room = DiskRoom {
+        end: 64,
+        written: 256,
+        calls: 16,
+    };
+    MemDisk::new(alloc, bytes, room, &[failing])
+}
+
+fn sink(alloc: Global, failing: usize) -> Result<MemSink, AllocError> {
+    let room = Room {
+        bytes: 1024,
+        calls: 256,
+    };
+    MemSink::new(alloc, room, &[failing])
+}
+
+fn data_devices(alloc: Global) -> Result<Vec<MemData>, AllocError> {
+    let room = Room { bytes: 0, calls: 0 };
+    let mut devices = Vec::new(alloc);
+    for _ in 0..16 {
+        devices.push(MemData::new(alloc, room, &[])?)?;
+    }
+    Ok(devices)
+}
+
+/// One call over forms in memory.
+fn call<R: Abort + Threads + Wait + Sync>(
+    rt: &R,
+    alloc: Global,
+    words: &str,
+    text: &str,
+    device: &[u8],
+    failing: Failing,
+) -> Result<Left, AllocError> {
+    let words = words_of(alloc, words)?;
+    let mut input = MemSource::new(alloc, text.as_bytes(), 8, &[failing.source])?;
+    let mut out = sink(alloc, failing.sink)?;
+    let mut trace = sink(alloc, NEVER)?;
+    let meta = disk(alloc, device, failing.disk)?;
+    let devices = data_devices(alloc)?;
+    assert!(rt; devices.len() == 16);
+    let shipped = zms(
+        rt, alloc, &words, &mut input, &mut out, &mut trace, meta, devices, &NoMeet,
+    );
+    let Shipped {
+        status,
+        meta,
+        devices: _devices,
+        journals: _journals,
+        lists: _lists,
+    } = shipped;
+    Ok(Left {
+        status,
+        printed: Vec::from_slice(alloc, out.taken())?,
+        device: Vec::from_slice(alloc, meta.bytes())?,
+    })
+}
+
+#[test]
+fn a_pool_is_created_and_run(rt: HostRuntime) -> Result<(), Fail> {
+    let alloc = rt.alloc();
+    let created = call(&rt, alloc, CREATE, "", b"", NOTHING_FAILS)?;
+    assert_eq!(rt; created.status, Status::Done);
+    assert_eq!(rt; created.printed.as_slice(), b"created group 4\n".as_slice());
+    assert_eq!(rt; created.device.as_slice(), EMPTY);
+    let text = "1 alloc a 4096 normal 1\n1 sync\n";
+    let ran = call(&rt, alloc, RUN, text, &created.device, NOTHING_FAILS)?;
+    assert_eq!(rt; ran.status, Status::Done);
+    let want = "\
+1 alloc a granted 5 normal 0:0:4096
+1 sync done 5
+metaslab 0 0 live 1 deferred 0 vacant 255
+class normal live 4096 deferred 0 vacant 1044480
+pool live 4096 deferred 0 vacant 1044480
+group 5
+";
+    assert_eq!(rt; ran.printed.as_slice(), want.as_bytes());
+    assert_eq!(rt; ran.device.as_slice(), WITH_UNIT_0);
+    Ok(())
+}
+
+#[test]
+fn sizes_that_are_not_granted(rt: HostRuntime) -> Result<(), Fail> {
+    let text = "\
+1 alloc a 0 normal 1
+1 alloc b 16777216 normal 1
+1 alloc c 16777217 normal 1
+";
+    let want = "\
+1 alloc a badsize
+1 alloc b nospace 1
+1 alloc c badsize
+";
+    let ran = call(&rt, rt.alloc(), RUN, text, EMPTY, NOTHING_FAILS)?;
+    assert_eq!(rt; ran.status, Status::Done);
+    let want = format!(in rt.alloc(); "{want}{TOTALS_OF_EMPTY}")?;
+    assert_eq!(rt; ran.printed.as_slice(), want.as_bytes());
+    assert_eq!(rt; ran.device.as_slice(), EMPTY);
+    Ok(())
+}
+
+#[test]
+fn ends_that_leave_the_device_as_it_was(rt: HostRuntime) -> Result<(), Fail> {
+    let already = PoolCause::AlreadyPool { newest: Group(4) };
+    let no_slot = PoolCause::Open(OpenCause::NoSlot);
+    let no_class = "1 alloc a 4096 normal 1\n1 sync\n1 alloc b 4096 1\n";
+    let rows = [
+        (RUN, "", EMPTY, Status::Done, TOTALS_OF_EMPTY),
+        (RUN, no_class, EMPTY, Status::BadText { line: 3 }, ""),
+        (CREATE, "", EMPTY, Status::NotAPool { cause: already }, ""),
+        (
+            RUN,
+            "1 sync\n",
+            &[],
+            Status::NotAPool { cause: no_slot },
+            "",
+        ),
+        ("report p", "1 sync\n", EMPTY, Status::Usage, ""),
+        ("run P", "1 sync\n", EMPTY, Status::Usage, ""),
+    ];
+    for (words, text, device, status, printed) in rows {
+        let left = call(&rt, rt.alloc(), words, text, device, NOTHING_FAILS)?;
+        assert_eq!(rt; left.status, status, "for {words}: {text}");
+        assert_eq!(rt;
+            left.printed.as_slice(),
+            printed.as_bytes(),
+            "for {words}: {text}"
+        );
+        assert_eq!(rt; left.device.as_slice(), device, "for {words}: {text}");
+    }
+    Ok(())
+}
+
+#[test]
+fn a_failing_call_of_a_creation_is_told(rt: HostRuntime) -> Result<(), Fail> {
+    let none = NOTHING_FAILS;
+    let rows = [
+        (Failing { sink: 0, ..none }, Status::WriteFault),
+        // The head is read, and the record is written and flushed.
+        (Failing { disk: 0, ..none }, Status::DeviceFault),
+        (Failing { disk: 1, ..none }, Status::DeviceFault),
+        (Failing { disk: 2, ..none }, Status::DeviceFault),
+    ];
+    for (failing, status) in rows {
+        let left = call(&rt, rt.alloc(), CREATE, "", b"", failing)?;
+        assert_eq!(rt; left.status, status, "for {failing:?}");
+    }
+    Ok(())
+}
+
+#[test]
+fn a_failing_call_of_a_run_is_told(rt: HostRuntime) -> Result<(), Fail> {
+    let none = NOTHING_FAILS;
+    let rows = [
+        (Failing { source: 0, ..none }, Status::ReadFault),
+        (Failing { source: 1, ..none }, Status::ReadFault),
+        (Failing { sink: 0, ..none }, Status::WriteFault),
+        (Failing { sink: 20, ..none }, Status::WriteFault),
+        // The head and the bits are read, and the record is written and flushed.
+        (Failing { disk: 0, ..none }, Status::DeviceFault),
+        (Failing { disk: 1, ..none }, Status::DeviceFault),
+        (Failing { disk: 2, ..none }, Status::DeviceFault),
+        (Failing { disk: 3, ..none }, Status::DeviceFault),
+    ];
+    for (failing, status) in rows {
+        let left = call(&rt, rt.alloc(), RUN, "1 sync\n", EMPTY, failing)?;
+        assert_eq!(rt; left.status, status, "for {failing:?}");
+    }
+    Ok(())
+}
+
+#[test]
+fn a_pool_with_a_fault_is_suspended(rt: HostRuntime) -> Result<(), Fail> {
+    let failing = Failing {
+        disk: 2,
+        ..NOTHING_FAILS
+    };
+    let ran = call(&rt, rt.alloc(), RUN, "1 sync\n1 sync\n", EMPTY, failing)?;
+    let want = "1 sync device 0 1\n1 sync suspended 0 1\n";
+    let want = format!(in rt.alloc(); "{want}{TOTALS_OF_EMPTY}")?;
+    assert_eq!(rt; ran.status, Status::DeviceFault);
+    assert_eq!(rt; ran.printed.as_slice(), want.as_bytes());
+    Ok(())
+}
+
+#[test]
+fn a_run_is_not_still(rt: HostRuntime) -> Result<(), Fail> {
+    for (words, want) in [(CREATE, Status::Done), (RUN, Status::Usage)] {
+        let words = words_of(rt.alloc(), words)?;
+        let mut out = sink(rt.alloc(), NEVER)?;
+        let meta = disk(rt.alloc(), b"", NEVER)?;
+        let (status, _meta) = zms_still(rt.alloc(), &words, &mut out, meta);
+        assert_eq!(rt; status, want);
+    }
+    Ok(())
+}
