@@ -1,0 +1,40 @@
+//! The files of a pool.
+ghost use Rattle.std.specs.Prelude.{◌≡◌, length, IfOk};
+
+use crate::data::FileData;
+use crate::disk::FileDisk;
+use crate::streams::FileSink;
+use std::alloc::{AllocError, Global};
+
+/// How many data devices a pool may have.
+const DEVICES: usize = 16;
+
+/// The files of a pool, none of which is opened yet. `POOL.meta` is the pool device, `POOL.d0` to `POOL.d15` are the
+/// devices of its vdevs, and `POOL.trace` is for the trace.
+#[derive(Drop)]
+pub struct PoolFiles {
+    pub meta: FileDisk,
+    pub devices: Vec<FileData>,
+    pub trace: FileSink,
+    ghost each_device: { length devices.items ≡ 16 },
+}
+
+impl PoolFiles {
+    pub fn new(alloc: Global, rt: HostRuntime, pool: &str) -> Result<Self, AllocError> {
+        Ok(PoolFiles {
+            meta: FileDisk::new(rt, format!(in alloc; "{pool}.meta")?),
+            devices: data_files(alloc, rt, pool)?,
+            trace: FileSink::new(rt, format!(in alloc; "{pool}.trace")?),
+        })
+    }
+}
+
+fn data_files(alloc: Global, rt: HostRuntime, pool: &str) -> Result<Vec<FileData>, AllocError>
+    ensures { IfOk result (λ devices. length devices.items ≡ 16) }
+{
+    let mut devices = Vec::with_capacity(alloc, DEVICES)?;
+    for index in 0..DEVICES {
+        devices.push(FileData::new(rt, format!(in alloc; "{pool}.d{index}")?))?;
+    }
+    Ok(devices)
+}
