@@ -1,2 +1,6 @@
 pub mod Segments
 pub mod Rounding
+pub mod Runs
+pub mod Cursors
+pub mod Apart
+pub mod Weights

@@ -7,8 +7,10 @@
 
 mod blocks;
 mod faults;
+mod free_runs;
 mod items;
 mod places;
+mod plain;
 mod rounding;
 mod segments;
 #[cfg(test)]
@@ -16,7 +18,9 @@ mod tests;
 
 pub use blocks::{Block, Copies, Dva};
 pub use faults::{Damage, First, MapCause, MapFault};
+pub use free_runs::FreeRuns;
 pub use items::{Items, Text};
 pub use places::{Class, Histogram, MsId, VdevRow};
+pub use plain::PlainRuns;
 pub use rounding::{BadSize, MAX_BLOCK_SIZE, units_of};
 pub use segments::{Group, MAX_UNITS, Seg};

@@ -51,3 +51,52 @@ fn lists_give_back_what_they_hold(rt: HostRuntime) -> Result<(), Fail> {
     assert_eq!(rt; copies.as_slice()[1].vdev, 1);
     Ok(())
 }
+
+#[test]
+fn plain_runs_answer_of_their_list(rt: HostRuntime) {
+    let runs = [
+        Seg {
+            start: 10,
+            count: 3,
+        },
+        Seg {
+            start: 20,
+            count: 2,
+        },
+        Seg {
+            start: 30,
+            count: 2,
+        },
+    ];
+    let free = PlainRuns::new(&runs, 256);
+    assert_eq!(rt; free.range(), 256);
+    assert_eq!(rt; free.units(), 7);
+    assert_eq!(rt; free.largest(), 3);
+    let rows = [
+        (2, 0, Some((10, 3)), Some((20, 2))),
+        (2, 10, Some((10, 3)), Some((20, 2))),
+        (2, 11, Some((20, 2)), Some((20, 2))),
+        (2, 31, None, Some((20, 2))),
+        (3, 0, Some((10, 3)), Some((10, 3))),
+        (3, 11, None, Some((10, 3))),
+        (4, 0, None, None),
+    ];
+    for (count, at, first, best) in rows {
+        assert_eq!(rt;
+            pair(free.first_from(count, at)),
+            first,
+            "{count} units from {at}"
+        );
+        assert_eq!(rt; pair(free.best(count)), best, "{count} units");
+    }
+
+    let full = PlainRuns::new(&[], 64);
+    assert_eq!(rt; full.units(), 0);
+    assert_eq!(rt; full.largest(), 0);
+    assert_eq!(rt; full.first_from(1, 0), None);
+    assert_eq!(rt; full.best(1), None);
+}
+
+fn pair(seg: Option<Seg>) -> Option<(u32, u32)> {
+    seg.map(|seg| (seg.start, seg.count))
+}

@@ -1,0 +1,11 @@
+pub mod UnitTests
+pub mod RisingSegs
+pub mod ApartRuns
+pub mod Counting
+pub mod Maximal
+pub mod Rows
+pub mod Fits
+pub mod Along
+pub mod Scans
+pub mod Listed
+pub mod Buckets
