@@ -1,0 +1,5 @@
+pub mod Layout
+pub mod Batches
+pub mod Reading
+pub mod Replay
+pub mod Laws
