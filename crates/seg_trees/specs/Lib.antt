@@ -1,0 +1,4 @@
+pub mod Sets
+pub mod OneSet
+pub mod Kept
+pub mod Pieces
