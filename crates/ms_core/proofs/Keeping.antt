@@ -1,438 +1,402 @@
 -- What a metaslab keeps of itself stays true through each act.
-use Rattle.std.proofs.Common.{◌≡◌, ℕ, ◌+◌, ◌≤◌, ◌<◌, Bool, true, false, cond, List, [], ◌∷◌, ◌++◌, length, get_or, take, refl, sym, ◌∙◌, ap, subst, arith, Vec, Global, vec_len}
-use Rattle.std.specs.Prelude.{◌||◌, ◌&&◌, not, ◌==◌}
-use Rattle.std.specs.List.{filter, list_any, list_all}
-use Rattle.std.specs.Vec.{vec_capacity}
-use Rattle.std.proofs.lemmas.Bool.Decides.{nat_tests}
-use Rattle.std.proofs.lemmas.List.{take_all}
+use Rattle.std.proofs.Common.{◌≡◌, ℕ, ◌+◌, ◌-◌, ◌≤◌, ◌<◌, Bool, true, false, cond, Some, None, List, [], refl, sym, ◌∙◌, ap, subst, arith}
+use Rattle.std.specs.Prelude.{◌||◌, ◌&&◌, not, ◌==◌, ◌≢◌, slice_index}
+use Rattle.std.specs.List.{All}
+use Rattle.std.proofs.lemmas.List.Elements.{All-nil, All-push}
 use Rattle.zms_units.specs.declared.segments.Seg.{Seg}
 use Rattle.zms_units.specs.declared.segments.Group.{Group}
-use Rattle.zms_units.specs.Segments.{end_of, covers, covered, Covers, AreSegs, AreRisingFrom}
-use Rattle.ms_model.specs.Units.{settled_by, settled_group, collected_by, collected_group, loaded_by, is_loaded, held}
-use Rattle.ms_model.specs.Spaces.{is_vacant, is_live}
-use Rattle.ms_model.specs.Counts.{units_in, live_units}
-use Rattle.ms_model.specs.Runs.{IsFit, AreMaximalRuns}
-use Rattle.ms_model.specs.Gains.{gained_by, is_gained, is_given}
-use Rattle.ms_model.specs.Legal.{MayDo, MayMiss, MayGrant, TakesRequests, IsLegal}
+use Rattle.zms_units.specs.Segments.{end_of, covers, covered, Covers, AreSegs}
+use Rattle.zms_units.specs.Runs.{units_in, begins_run, run_count, IsFit, NoneInRow, AreMaximalRuns}
+use Rattle.zms_units.specs.Cursors.{cursor_of}
+use Rattle.zms_units.proofs.UnitTests.{same_not}
+use Rattle.zms_units.proofs.Fits.{fit_within, fit_inside}
+use Rattle.zms_units.proofs.Along.{SameBelow, fit_along, row_along, maximal_along}
+use Rattle.zms_units.proofs.Counting.{run_count_same, units_none}
+use Rattle.zms_units.proofs.Maximal.{apart_maximal}
+use Rattle.seg_trees.specs.Sets.{range as all_units, nodes_of, Sets, AllStay, OthersStay, OthersStayBut}
+use Rattle.ms_model.specs.Origin.{Origin}
+use Rattle.ms_model.specs.Units.{granted, untouched, is_grant, last_act, settled_by, settled_group, collected_by, collected_group, loaded_by, is_loaded, disabled_by, worker_at, held}
+use Rattle.ms_model.specs.Spaces.{is_vacant}
+use Rattle.ms_model.specs.Counts.{live_units, deferred_units}
+use Rattle.ms_model.specs.Cursors.{cursor_by, cursor_at}
+use Rattle.ms_model.specs.Legal.{IsWithin, IsGrantedBy, MayDo, MayMiss, MayGrant, MayFree, MayTakeBack, TakesRequests, IsLegal}
+use Rattle.ms_model.specs.Gains.{is_gained, is_given}
 use Rattle.ms_model.specs.declared.notes.Act.{Act}
-use Rattle.ms_model.specs.declared.notes.Act.TheVariants.{Grant, Miss, Collect, Settle, Load}
+use Rattle.ms_model.specs.declared.notes.Act.TheVariants.{Grant, Free, Unalloc, Miss, Collect, Settle, Load, Unload}
 use Rattle.ms_model.specs.declared.notes.Noted.{Noted}
-use Rattle.ms_model.proofs.Histories.{settled_group-push, collected_group-push, is_loaded-push, is_gained-push, legal_push}
-use Rattle.ms_model.proofs.Overlaps.{covers_true, not_true}
-use Rattle.ms_model.proofs.UnitFacts.{is_false}
-use Rattle.ms_core.specs.Apart.{AreApartFrom, segs_of, gains, gained_in}
-use Rattle.ms_core.specs.Buffers.{begins_run, changed_runs}
-use Rattle.ms_core.specs.Kept.{IsKept, origin_in, is_made, hands_none}
-use Rattle.ms_core.specs.declared.runs.Granted.{Granted}
-use Rattle.ms_core.specs.declared.metaslab.Metaslab.TheInside.{Inside}
-use Rattle.ms_core.proofs.UnitTests.{or_right, same_not}
-use Rattle.ms_core.proofs.Counting.{units_same, units_or, units_seg, units_le, units_none, run_count_same, run_count-length}
-use Rattle.ms_core.proofs.RisingSegs.{rising_low}
-use Rattle.ms_core.proofs.ApartRuns.{apart_at, covered_at}
-use Rattle.ms_core.proofs.Fits.{fit_at, none_at, maximal}
-use Rattle.ms_core.proofs.Journals.{vacant_is, worker_none, made_push, none_push, live_after, live_after_grant, held_is_live, given_none}
+use Rattle.ms_model.proofs.Histories.{settled_group-push, collected_group-push, is_loaded-push, worker_at-push, cursor_at-push, legal_push, legal_none}
+use Rattle.ms_model.proofs.Changes.{held_unloaded, vacant_unloaded, given_far}
+use Rattle.ms_core.specs.Mirrors.{Mirrors, Settles, allocating_of, freeing_of, deferred_of}
+use Rattle.ms_core.specs.Kept.{Book, IsKept, origin_in}
+use Rattle.ms_core.proofs.Narrowing.{count_down, range_le}
+use Rattle.ms_core.proofs.Cursors.{cursor_within}
+use Rattle.ms_core.proofs.Mirrored.{after_act, mirrors_first, mirrors_stay, mirrors_miss, mirrors_grant, mirrors_free, mirrors_unalloc, mirrors_collect, mirrors_settle, mirrors_load}
+use Rattle.ms_core.proofs.Counted.{live_grant, deferred_grant, live_free, deferred_free, live_unalloc, deferred_unalloc, deferred_settle, live_still, deferred_still, live_first, deferred_first}
 
-abbrev Notes : Type 0
-Notes = Vec Noted Global
-
--- more room for notes changes nothing else
-pub kept_room : (m : Inside) (v : Notes) → IsKept m → v.items ≡ m.notes.items → vec_len v + m.collected.0 ≤ vec_capacity v + m.settled.0 → IsKept (record m { notes = v })
-kept_room m v k e room =
+-- before the first note
+pub kept_first : (sets : Sets) (m : Book) → ((tree u : ℕ) → sets tree u ≡ false) → 64 ≤ m.units → m.units ≤ 131072 → (9 ≤ m.ashift) × (m.ashift ≤ 12) → AreSegs m.units m.base
+    → m.notes ≡ [] → m.loaded ≡ false → m.collected ≡ m.opened → m.settled ≡ m.opened → m.held ≡ units_in (covered m.base) m.units → m.live ≡ m.held → m.deferred ≡ 0 → IsKept sets m
+kept_first sets m empty least most shift base none idle collected settled held live deferred =
     let o = origin_in m in
     record {
-      least = k.least;
-      most = k.most;
-      base = k.base;
-      legal = subst (IsLegal o) (sym e) k.legal;
-      made = rw e k.made;
-      untouched = λ h. rw e (k.untouched h);
-      collected = k.collected ∙ ap (collected_group o) (sym e);
-      settled = k.settled ∙ ap (settled_group o) (sym e);
-      order = k.order;
-      loaded = k.loaded ∙ ap is_loaded (sym e);
-      apart = k.apart;
-      vacant = λ h u l. k.vacant h u l ∙ ap (λ (l : List Noted). is_vacant o l u) (sym e);
-      rising = k.rising;
-      handed = λ u h. ap (λ (l : List Noted). is_live o l u) e ∙ k.handed u h;
-      gained = λ t u h. k.gained t u h ∙ ap (λ (l : List Noted). is_gained t l u) (sym e);
-      held = k.held;
-      live = k.live ∙ ap (live_units o) (sym e);
-      room = room;
+      least = least;
+      most = most;
+      shift = shift;
+      base = base;
+      legal = subst (IsLegal o) (sym none) (legal_none o);
+      enabled = ap worker_at none;
+      stays = subst (All (λ (note : Noted). note.act ≢ Unload)) (sym none) (All-nil (λ (note : Noted). note.act ≢ Unload));
+      collected = collected ∙ ap (collected_group o) (sym none);
+      settled = settled ∙ ap (settled_group o) (sym none);
+      order = omega arith;
+      loaded = idle ∙ ap is_loaded (sym none);
+      mirrors = subst (λ h. Mirrors o h sets) (sym none) (mirrors_first o sets empty);
+      cursors = λ h. absurd (same_not h idle);
+      held = held;
+      live = live ∙ held ∙ sym (live_first o) ∙ ap (live_units o) (sym none);
+      deferred = deferred ∙ sym (deferred_first o) ∙ ap (deferred_units o) (sym none);
     }
 
--- a list of runs that isn't used yet may be any
-pub kept_unloaded : (m : Inside) (w : Vec Seg Global) → IsKept m → m.loaded ≡ false → IsKept (record m { vacant = w })
-kept_unloaded m w k idle =
+-- trees that have more room
+pub kept_stay : (sets new : Sets) (m : Book) → IsKept sets m → AllStay sets new → IsKept new m
+kept_stay sets new m k stay =
     record {
       least = k.least;
       most = k.most;
+      shift = k.shift;
       base = k.base;
       legal = k.legal;
-      made = k.made;
-      untouched = k.untouched;
+      enabled = k.enabled;
+      stays = k.stays;
       collected = k.collected;
       settled = k.settled;
       order = k.order;
       loaded = k.loaded;
-      apart = λ h. absurd (same_not h idle);
-      vacant = λ h. absurd (same_not h idle);
-      rising = k.rising;
-      handed = k.handed;
-      gained = k.gained;
+      mirrors = mirrors_stay (origin_in m) m.notes sets new stay k.mirrors;
+      cursors = k.cursors;
       held = k.held;
       live = k.live;
-      room = k.room;
+      deferred = k.deferred;
     }
 
--- an act that hands nothing out
-module _ (m : Inside) (k : IsKept m) (v : Notes) (lane : ℕ) (act : Act) (e : v.items ≡ m.notes.items ++ record { lane = lane; act = act } ∷ [])
-    (may : MayDo (origin_in m) m.notes.items lane act) (made : is_made act ≡ true) where
-  legal_after : IsLegal (origin_in m) v.items
-  legal_after = subst (IsLegal (origin_in m)) (sym e) (legal_push (origin_in m) m.notes.items (record { lane = lane; act = act }) k.legal may)
+-- where nothing was given back there is no run of it
+pub given_no_count : (h : List Noted) (group units : ℕ) → ((u : ℕ) → is_given group h u ≡ false) → 0 ≡ run_count (is_given group h) units
+given_no_count h group units none =
+    let begins : (u : ℕ) → begins_run (is_given group h) u ≡ false = λ u. rw (none u) refl in
+    sym (units_none (begins_run (is_given group h)) units begins)
 
-  made_after : list_all (λ (note : Noted). is_made note.act) v.items ≡ true
-  made_after = rw e (made_push m.notes.items (record { lane = lane; act = act }) k.made made)
+pub given_no_runs : (h : List Noted) (group units : ℕ) (runs : List Seg) → ((u : ℕ) → is_given group h u ≡ false) → runs ≡ [] → AreMaximalRuns (is_given group h) units runs
+given_no_runs h group units runs none empty =
+    subst (AreMaximalRuns (is_given group h) units) (sym empty) (apart_maximal (is_given group h) units [] (omega arith) (λ u l. sym (none u)))
 
-  settled_after : settled_group (origin_in m) v.items ≡ settled_by (settled_group (origin_in m) m.notes.items) act
-  settled_after = ap (settled_group (origin_in m)) e ∙ settled_group-push (origin_in m) m.notes.items (record { lane = lane; act = act })
+module _ (sets : Sets) (m : Book) (k : IsKept sets m) where
+  takes_requests : m.loaded ≡ true → TakesRequests m.notes
+  takes_requests is = record { loaded = sym k.loaded ∙ is; enabled = k.enabled }
 
-  collected_after : collected_group (origin_in m) v.items ≡ collected_by (collected_group (origin_in m) m.notes.items) act
-  collected_after = ap (collected_group (origin_in m)) e ∙ collected_group-push (origin_in m) m.notes.items (record { lane = lane; act = act })
+  pub vacant_same : m.loaded ≡ true → SameBelow m.units (sets 0) (is_vacant (origin_in m) m.notes)
+  vacant_same is = k.mirrors.vacant (sym k.loaded ∙ is)
 
-  loaded_after : is_loaded v.items ≡ loaded_by (is_loaded m.notes.items) act
-  loaded_after = ap is_loaded e ∙ is_loaded-push m.notes.items (record { lane = lane; act = act })
+  pub may_miss : m.loaded ≡ true → (count : ℕ) → NoneInRow (sets 0) m.units count → MayMiss (origin_in m) m.notes count
+  may_miss is count none = record { takes = takes_requests is; none = row_along m.units _ _ (vacant_same is) count none }
 
-  gained_after : (t u : ℕ) → is_gained t v.items u ≡ gained_by t u (is_gained t m.notes.items u) act
-  gained_after t u = ap (λ (l : List Noted). is_gained t l u) e ∙ is_gained-push t m.notes.items (record { lane = lane; act = act }) u
+  -- what `fit` tells of the vacant units
+  abbrev pub Fits : ℕ → Seg → Type 0
+  Fits count seg = IsFit (sets 0) m.units m.ashift (slice_index m.cursors (cursor_of count)) count seg
 
-  module _ (none : hands_none act ≡ true) where
-    live_still : (u : ℕ) → is_live (origin_in m) v.items u ≡ is_live (origin_in m) m.notes.items u
-    live_still u = ap (λ (l : List Noted). is_live (origin_in m) l u) e ∙ live_after (origin_in m) m.notes.items lane act u made none
+  pub may_grant : m.loaded ≡ true → (group count : ℕ) (seg : Seg) → 0 < count → count ≤ 131072 → m.collected < group → group ≤ settled_group (origin_in m) m.notes + 3
+      → Fits count seg → MayGrant (origin_in m) m.notes group seg
+  may_grant is group count seg some most above near fits =
+      let vacant = is_vacant (origin_in m) m.notes in
+      let there : Fits count seg → IsFit vacant m.units m.ashift (cursor_at m.notes (cursor_of count)) count seg =
+      λ f. subst (λ at. IsFit vacant m.units m.ashift at count seg) (k.cursors is (cursor_of count) (cursor_within count some most)) (fit_along m.units _ _ (vacant_same is) m.ashift _ count seg f) in
+      let fit = there fits in
+      record {
+        takes = takes_requests is;
+        open_group = record { above = omega (arith, k.collected); near = near };
+        within = record { some = omega (arith, fits.counts); within = fit_within _ _ _ _ _ seg fit };
+        vacant = λ u c. fit_inside _ _ _ _ _ seg fit u c;
+        fit = subst (λ n. IsFit vacant m.units m.ashift (cursor_at m.notes (cursor_of n)) n seg) (sym fits.counts) fit;
+      }
 
-    vacant_still : (u : ℕ) → is_vacant (origin_in m) v.items u ≡ is_vacant (origin_in m) m.notes.items u
-    vacant_still u = vacant_is (origin_in m) v.items u made_after ∙ (ap not (live_still u) ∙ sym (vacant_is (origin_in m) m.notes.items u k.made))
+  -- nothing was touched before the first load
+  pub vacant_held : m.loaded ≡ false → (t u : ℕ) → is_vacant (origin_in m) m.notes u ≡ not (held (origin_in m) m.notes t u)
+  vacant_held idle t u =
+      let o = origin_in m in
+      let is : is_loaded m.notes ≡ false = sym k.loaded ∙ idle in
+      vacant_unloaded o m.notes u k.legal is k.stays ∙ ap not (sym (held_unloaded o m.notes t u k.legal is k.stays))
 
-    untouched_after : m.loaded ≡ false → list_all (λ (note : Noted). hands_none note.act) v.items ≡ true
-    untouched_after h = rw e (none_push m.notes.items (record { lane = lane; act = act }) (k.untouched h) none)
+  pub may_free : m.loaded ≡ true → (group : ℕ) (seg : Seg) → m.collected < group → group ≤ settled_group (origin_in m) m.notes + 3 → IsWithin m.units seg
+      → ((u : ℕ) → Covers seg u → IsGrantedBy group (last_act (origin_in m) m.notes u)) → MayFree (origin_in m) m.notes group seg
+  may_free is group seg above near within live =
+      record { loaded = sym k.loaded ∙ is; open_group = record { above = omega (arith, k.collected); near = near }; within = within; live = live }
 
-    live_count : m.live ≡ live_units (origin_in m) v.items
-    live_count = k.live ∙ sym (units_same (is_live (origin_in m) v.items) (is_live (origin_in m) m.notes.items) m.units live_still)
+  pub may_take_back : m.loaded ≡ true → (lane group : ℕ) (seg : Seg) → m.collected < group → group ≤ settled_group (origin_in m) m.notes + 3 → IsWithin m.units seg
+      → ((u : ℕ) → Covers seg u → last_act (origin_in m) m.notes u ≡ granted (Some lane) group) → MayTakeBack (origin_in m) m.notes lane group seg
+  may_take_back is lane group seg above near within own =
+      record { loaded = sym k.loaded ∙ is; open_group = record { above = omega (arith, k.collected); near = near }; within = within; own = own }
 
-pub kept_miss : (m : Inside) (k : IsKept m) (v : Notes) (lane count : ℕ) → v.items ≡ m.notes.items ++ record { lane = lane; act = Miss count } ∷ []
-    → MayMiss (origin_in m) m.notes.items count → vec_len v + m.collected.0 ≤ vec_capacity v + m.settled.0 → IsKept (record m { notes = v })
-kept_miss m k v lane count e may room =
-    let act : Act = Miss count in
-    record {
-      least = k.least;
-      most = k.most;
-      base = k.base;
-      legal = legal_after m k v lane act e may refl;
-      made = made_after m k v lane act e may refl;
-      untouched = untouched_after m k v lane act e may refl refl;
-      collected = k.collected ∙ sym (collected_after m k v lane act e may refl);
-      settled = k.settled ∙ sym (settled_after m k v lane act e may refl);
-      order = k.order;
-      loaded = k.loaded ∙ sym (loaded_after m k v lane act e may refl);
-      apart = k.apart;
-      vacant = λ h u l. k.vacant h u l ∙ sym (vacant_still m k v lane act e may refl refl u);
-      rising = k.rising;
-      handed = λ u h. live_still m k v lane act e may refl refl u ∙ k.handed u h;
-      gained = λ t u h. k.gained t u h ∙ sym (gained_after m k v lane act e may refl t u);
-      held = k.held;
-      live = live_count m k v lane act e may refl refl;
-      room = room;
-    }
+  -- the runs of the next group
 
-pub kept_settle : (m : Inside) (k : IsKept m) (v : Notes) (lane : ℕ) (group : Group) → v.items ≡ m.notes.items ++ record { lane = lane; act = Settle group } ∷ []
-    → group.0 ≡ m.settled.0 + 1 → group.0 ≤ m.collected.0 → vec_len v ≡ vec_len m.notes + 1 → vec_capacity v ≡ vec_capacity m.notes
-    → IsKept (record m { notes = v; settled = group })
-kept_settle m k v lane group e next within len cap =
-    let act : Act = Settle group in
-    let may : MayDo (origin_in m) m.notes.items lane act = (omega (arith, k.settled), omega (arith, k.collected)) in
-    record {
-      least = k.least;
-      most = k.most;
-      base = k.base;
-      legal = legal_after m k v lane act e may refl;
-      made = made_after m k v lane act e may refl;
-      untouched = untouched_after m k v lane act e may refl refl;
-      collected = k.collected ∙ sym (collected_after m k v lane act e may refl);
-      settled = sym (settled_after m k v lane act e may refl);
-      order = within;
-      loaded = k.loaded ∙ sym (loaded_after m k v lane act e may refl);
-      apart = k.apart;
-      vacant = λ h u l. k.vacant h u l ∙ sym (vacant_still m k v lane act e may refl refl u);
-      rising = k.rising;
-      handed = λ u h. live_still m k v lane act e may refl refl u ∙ k.handed u h;
-      gained = λ t u h. k.gained t u h ∙ sym (gained_after m k v lane act e may refl t u);
-      held = k.held;
-      live = live_count m k v lane act e may refl refl;
-      room = omega (arith, k.room);
-    }
+  tree_count : (tree : ℕ) (set : ℕ → Bool) → ((u : ℕ) → sets tree u ≡ set u) → nodes_of (sets tree) ≡ run_count set m.units
+  tree_count tree set same =
+      count_down (sets tree) m.units all_units (range_le m.units k.most) (k.mirrors.within tree) ∙ run_count_same (sets tree) set m.units same
 
-pub kept_load : (m : Inside) (k : IsKept m) (v : Notes) (lane : ℕ) (w : Vec Seg Global) (given : List Seg) → v.items ≡ m.notes.items ++ record { lane = lane; act = Load } ∷ []
-    → m.loaded ≡ false → AreApartFrom 0 (m.units + 1) w.items → ((u : ℕ) → u < m.units → covered w.items u ≡ not (covered given u))
-    → ((u : ℕ) → u < m.units → covered given u ≡ held (origin_in m) m.notes.items (settled_group (origin_in m) m.notes.items) u)
-    → vec_len v + m.collected.0 ≤ vec_capacity v + m.settled.0 → IsKept (record m { notes = v; vacant = w; loaded = true })
-kept_load m k v lane w given e idle apart gaps holds room =
-    let o = origin_in m in
-    let may : MayDo o m.notes.items lane Load = sym k.loaded ∙ idle in
-    record {
-      least = k.least;
-      most = k.most;
-      base = k.base;
-      legal = legal_after m k v lane Load e may refl;
-      made = made_after m k v lane Load e may refl;
-      untouched = λ h. absurd (same_not refl h);
-      collected = k.collected ∙ sym (collected_after m k v lane Load e may refl);
-      settled = k.settled ∙ sym (settled_after m k v lane Load e may refl);
-      order = k.order;
-      loaded = sym (loaded_after m k v lane Load e may refl);
-      apart = λ h. apart;
-      vacant = λ h u l.
-          gaps u l ∙ (ap not (holds u l ∙ held_is_live o m.notes.items (settled_group o m.notes.items) u k.made (k.untouched idle))
-          ∙ (sym (vacant_is o m.notes.items u k.made) ∙ sym (vacant_still m k v lane Load e may refl refl u)));
-      rising = k.rising;
-      handed = λ u h. live_still m k v lane Load e may refl refl u ∙ k.handed u h;
-      gained = λ t u h. k.gained t u h ∙ sym (gained_after m k v lane Load e may refl t u);
-      held = k.held;
-      live = live_count m k v lane Load e may refl refl;
-      room = room;
-    }
+  next_gained : (group : ℕ) → group ≡ m.collected + 1 → (u : ℕ) → sets (allocating_of group) u ≡ is_gained group m.notes u
+  next_gained group next u = k.mirrors.gained group u (omega (arith, k.collected)) (omega (arith, k.collected))
 
--- requests
+  next_given : (group : ℕ) → group ≡ m.collected + 1 → group ≤ settled_group (origin_in m) m.notes + 3 → (u : ℕ) → sets (freeing_of group) u ≡ is_given group m.notes u
+  next_given group next near u = k.mirrors.given group u (omega (arith, k.order, k.settled)) (omega arith)
 
-takes_requests : (m : Inside) → IsKept m → m.loaded ≡ true → TakesRequests m.notes.items
-takes_requests m k is = record { loaded = sym k.loaded ∙ is; enabled = worker_none m.notes.items k.made }
+  pub gained_count : (group tree : ℕ) → tree ≡ allocating_of group → group ≡ m.collected + 1 → nodes_of (sets tree) ≡ run_count (is_gained group m.notes) m.units
+  gained_count group tree e next = tree_count tree (is_gained group m.notes) (λ u. ap (λ t. sets t u) e ∙ next_gained group next u)
 
-pub may_miss : (m : Inside) → IsKept m → m.loaded ≡ true → (count : ℕ) → 0 < count → ((i : ℕ) (d : Seg) → i < length m.vacant.items → (get_or m.vacant.items i d).count < count)
-    → MayMiss (origin_in m) m.notes.items count
-may_miss m k is count some short =
-    record {
-      takes = takes_requests m k is;
-      none = none_at (is_vacant (origin_in m) m.notes.items) m.units m.vacant.items (k.apart is) (k.vacant is) count some short;
-    }
+  pub given_count : (group tree : ℕ) → tree ≡ freeing_of group → group ≡ m.collected + 1 → group ≤ settled_group (origin_in m) m.notes + 3 → nodes_of (sets tree) ≡ run_count (is_given group m.notes) m.units
+  given_count group tree e next near = tree_count tree (is_given group m.notes) (λ u. ap (λ t. sets t u) e ∙ next_given group next near u)
 
-pub may_grant : (m : Inside) → IsKept m → m.loaded ≡ true → (group count i : ℕ) (seg : Seg) → 0 < count → m.collected.0 < group → group ≤ settled_group (origin_in m) m.notes.items + 3
-    → i < length m.vacant.items → ((d : Seg) → count ≤ (get_or m.vacant.items i d).count) → ((j : ℕ) (d : Seg) → j < i → (get_or m.vacant.items j d).count < count)
-    → ((d : Seg) → (get_or m.vacant.items i d).start ≡ seg.start) → seg.count ≡ count → MayGrant (origin_in m) m.notes.items group seg
-may_grant m k is group count i seg some above near l long short starts counts =
-    let vacant = is_vacant (origin_in m) m.notes.items in
-    let t = apart_at 0 (m.units + 1) m.vacant.items i seg (k.apart is) l in
-    let big = long seg in
-    let from = starts seg in
-    record {
-      takes = takes_requests m k is;
-      open_group = record { above = omega (arith, k.collected); near = near };
-      within = record { some = omega arith; within = omega arith };
-      vacant = λ u c. sym (k.vacant is u (omega arith)) ∙ covered_at m.vacant.items i seg l u (omega arith, omega arith);
-      fit = subst (λ n. IsFit vacant m.units n seg) (sym counts)
-          (fit_at vacant m.units m.vacant.items (k.apart is) (k.vacant is) i count seg seg l big short (sym from) counts);
-    }
+  pub given_none : (group : ℕ) → settled_group (origin_in m) m.notes + 3 < group → (u : ℕ) → is_given group m.notes u ≡ false
+  given_none group far u = given_far (origin_in m) m.notes group u k.legal far
 
--- nothing that was handed out is vacant
-pub granted_dead : (m : Inside) → IsKept m → (group : ℕ) (seg : Seg) → MayGrant (origin_in m) m.notes.items group seg → (u : ℕ) → Covers seg u → is_live (origin_in m) m.notes.items u ≡ false
-granted_dead m k group seg may u c = not_true _ (sym (vacant_is (origin_in m) m.notes.items u k.made) ∙ may.vacant u c)
+  runs_along : (p q : ℕ → Bool) (runs : List Seg) → ((u : ℕ) → p u ≡ q u) → AreMaximalRuns p m.units runs → AreMaximalRuns q m.units runs
+  runs_along p q runs same all =
+      record { rising = all.rising; maximal = λ i d l. maximal_along m.units p q (λ u h. same u) _ (all.maximal i d l); whole = λ u h. all.whole u h ∙ same u }
 
-pub granted_apart : (m : Inside) → IsKept m → (group : ℕ) (seg : Seg) → MayGrant (origin_in m) m.notes.items group seg → (u : ℕ) → Covers seg u → covered (segs_of m.allocating.items) u ≡ false
-granted_apart m k group seg may u c = is_false _ (λ h. same_not (k.handed u h) (granted_dead m k group seg may u c))
+  pub gained_runs : (group tree : ℕ) (runs : List Seg) → tree ≡ allocating_of group → group ≡ m.collected + 1 → AreMaximalRuns (sets tree) m.units runs → AreMaximalRuns (is_gained group m.notes) m.units runs
+  gained_runs group tree runs e next all = runs_along (sets tree) (is_gained group m.notes) runs (λ u. ap (λ t. sets t u) e ∙ next_gained group next u) all
 
-live_or : (m : Inside) → IsKept m → (group : ℕ) (seg : Seg) → MayGrant (origin_in m) m.notes.items group seg
-    → units_in (λ u. covers seg u || is_live (origin_in m) m.notes.items u) m.units ≡ seg.count + m.live
-live_or m k group seg may =
-    omega (
-      arith,
-      units_or (covers seg) (is_live (origin_in m) m.notes.items) m.units (λ u c. granted_dead m k group seg may u (covers_true seg u c)),
-      units_seg seg m.units may.within.within,
-      k.live,
-    )
+  pub given_runs : (group tree : ℕ) (runs : List Seg) → tree ≡ freeing_of group → group ≡ m.collected + 1 → group ≤ settled_group (origin_in m) m.notes + 3
+      → AreMaximalRuns (sets tree) m.units runs → AreMaximalRuns (is_given group m.notes) m.units runs
+  given_runs group tree runs e next near all = runs_along (sets tree) (is_given group m.notes) runs (λ u. ap (λ t. sets t u) e ∙ next_given group next near u) all
 
-pub live_fits : (m : Inside) → IsKept m → (group : ℕ) (seg : Seg) → MayGrant (origin_in m) m.notes.items group seg → m.live + seg.count ≤ m.units
-live_fits m k group seg may = omega (arith, live_or m k group seg may, units_le (λ u. covers seg u || is_live (origin_in m) m.notes.items u) m.units)
+-- another list of the same notes
+pub kept_notes : (sets : Sets) (m : Book) (notes : List Noted) → notes ≡ m.notes → IsKept sets m → IsKept sets (record m { notes = notes })
+kept_notes sets m notes e k = subst (λ h. IsKept sets (record m { notes = h })) (sym e) k
 
-not_or : (a b : Bool) → (not a && not b) ≡ not (a || b)
-not_or true b = refl
-not_or false b = refl
+module _ (sets new : Sets) (m : Book) (k : IsKept sets m) (notes : List Noted) (lane : ℕ) where
+  module _ (act : Act) (e : notes ≡ after_act m.notes lane act) (may : MayDo (origin_in m) m.notes lane act) (free : disabled_by None act ≡ None) (kept : act ≢ Unload) where
+    legal_after : IsLegal (origin_in m) notes
+    legal_after = subst (IsLegal (origin_in m)) (sym e) (legal_push (origin_in m) m.notes (record { lane = lane; act = act }) k.legal may)
 
-or_cond : (a b : Bool) → (a || b) ≡ cond a true b
-or_cond true b = refl
-or_cond false b = refl
+    enabled_after : worker_at notes ≡ None
+    enabled_after = ap worker_at e ∙ worker_at-push m.notes (record { lane = lane; act = act }) ∙ ap (λ w. disabled_by w act) k.enabled ∙ free
 
-covered_segs : (grants : List Granted) (u : ℕ) → covered (segs_of grants) u ≡ list_any (λ (g : Granted). covers g.seg u) grants
-covered_segs [] u = refl
-covered_segs (g ∷ gs) u = ap (λ b. covers g.seg u || b) (covered_segs gs u)
+    stays_after : All (λ (note : Noted). note.act ≢ Unload) notes
+    stays_after = subst (All (λ (note : Noted). note.act ≢ Unload)) (sym e) (All-push (λ (note : Noted). note.act ≢ Unload) m.notes (record { lane = lane; act = act }) k.stays kept)
 
-handed_by : (a b c : Bool) → (a || b) ≡ true → (b ≡ true → c ≡ true) → (a || c) ≡ true
-handed_by true b c e f = refl
-handed_by false b c e f = f e
+    settled_after : settled_group (origin_in m) notes ≡ settled_by (settled_group (origin_in m) m.notes) act
+    settled_after = ap (settled_group (origin_in m)) e ∙ settled_group-push (origin_in m) m.notes (record { lane = lane; act = act })
 
-module _ (m : Inside) (k : IsKept m) (v : Notes) (w : Vec Seg Global) (a : Vec Granted Global) (lane : ℕ) (group : Group) (seg : Seg)
-    (e : v.items ≡ m.notes.items ++ record { lane = lane; act = Grant group seg } ∷ []) (may : MayGrant (origin_in m) m.notes.items group.0 seg) where
-  live_granted : (u : ℕ) → is_live (origin_in m) v.items u ≡ (covers seg u || is_live (origin_in m) m.notes.items u)
-  live_granted u = ap (λ (l : List Noted). is_live (origin_in m) l u) e ∙ live_after_grant (origin_in m) m.notes.items lane group seg u
+    collected_after : collected_group (origin_in m) notes ≡ collected_by (collected_group (origin_in m) m.notes) act
+    collected_after = ap (collected_group (origin_in m)) e ∙ collected_group-push (origin_in m) m.notes (record { lane = lane; act = act })
 
-  vacant_granted : (u : ℕ) → is_vacant (origin_in m) v.items u ≡ (not (covers seg u) && is_vacant (origin_in m) m.notes.items u)
-  vacant_granted u =
-      vacant_is (origin_in m) v.items u (made_after m k v lane (Grant group seg) e may refl)
-      ∙ (ap not (live_granted u) ∙ (sym (not_or (covers seg u) (is_live (origin_in m) m.notes.items u))
-      ∙ ap (λ b. not (covers seg u) && b) (sym (vacant_is (origin_in m) m.notes.items u k.made))))
+    loaded_after : is_loaded notes ≡ loaded_by (is_loaded m.notes) act
+    loaded_after = ap is_loaded e ∙ is_loaded-push m.notes (record { lane = lane; act = act })
 
-  pub kept_grant : m.loaded ≡ true → ((next : ℕ) → AreApartFrom 0 next m.vacant.items → AreApartFrom 0 next w.items)
-      → ((u : ℕ) → covered w.items u ≡ (not (covers seg u) && covered m.vacant.items u))
-      → ((units : ℕ) → end_of seg ≤ units → AreSegs units (segs_of m.allocating.items) → AreSegs units (segs_of a.items))
-      → ((test : Granted → Bool) → list_any test a.items ≡ (test (record { group = group; seg = seg }) || list_any test m.allocating.items))
-      → vec_len v + m.collected.0 ≤ vec_capacity v + m.settled.0
-      → IsKept (record m { notes = v; vacant = w; allocating = a; live = m.live + seg.count })
-  kept_grant is apart rest rising any room =
-      let act : Act = Grant group seg in
+    cursor_after : (number : ℕ) → cursor_at notes number ≡ cursor_by number (cursor_at m.notes number) act
+    cursor_after number = ap (λ (l : List Noted). cursor_at l number) e ∙ cursor_at-push m.notes (record { lane = lane; act = act }) number
+
+    mirrors_after : Mirrors (origin_in m) (after_act m.notes lane act) new → Mirrors (origin_in m) notes new
+    mirrors_after f = subst (λ h. Mirrors (origin_in m) h new) (sym e) f
+
+    live_after : (n : ℕ) → n ≡ live_units (origin_in m) (after_act m.notes lane act) → n ≡ live_units (origin_in m) notes
+    live_after n f = f ∙ ap (live_units (origin_in m)) (sym e)
+
+    deferred_after : (n : ℕ) → n ≡ deferred_units (origin_in m) (after_act m.notes lane act) → n ≡ deferred_units (origin_in m) notes
+    deferred_after n f = f ∙ ap (deferred_units (origin_in m)) (sym e)
+
+  pub kept_miss : (count : ℕ) → notes ≡ after_act m.notes lane (Miss count) → MayMiss (origin_in m) m.notes count → AllStay sets new → IsKept new (record m { notes = notes })
+  kept_miss count e may stay =
+      let act : Act = Miss count in
+      let o = origin_in m in
       record {
         least = k.least;
         most = k.most;
+        shift = k.shift;
         base = k.base;
-        legal = legal_after m k v lane act e may refl;
-        made = made_after m k v lane act e may refl;
-        untouched = λ h. absurd (same_not is h);
-        collected = k.collected ∙ sym (collected_after m k v lane act e may refl);
-        settled = k.settled ∙ sym (settled_after m k v lane act e may refl);
+        legal = legal_after act e may refl (λ f. cc);
+        enabled = enabled_after act e may refl (λ f. cc);
+        stays = stays_after act e may refl (λ f. cc);
+        collected = k.collected ∙ sym (collected_after act e may refl (λ f. cc));
+        settled = k.settled ∙ sym (settled_after act e may refl (λ f. cc));
         order = k.order;
-        loaded = k.loaded ∙ sym (loaded_after m k v lane act e may refl);
-        apart = λ h. apart (m.units + 1) (k.apart is);
-        vacant = λ h u l. rest u ∙ (ap (λ b. not (covers seg u) && b) (k.vacant is u l) ∙ sym (vacant_granted u));
-        rising = rising m.units may.within.within k.rising;
-        handed = λ u h.
-            live_granted u ∙ handed_by (covers seg u) (covered (segs_of m.allocating.items) u) (is_live (origin_in m) m.notes.items u)
-            (ap (λ b. covers seg u || b) (covered_segs m.allocating.items u) ∙ (sym (any (λ g. covers g.seg u)) ∙ (sym (covered_segs a.items u) ∙ h))) (k.handed u);
-        gained = λ t u h.
-            any (gains t u) ∙ (ap (λ b. gains t u (record { group = group; seg = seg }) || b) (k.gained t u h)
-            ∙ (or_cond (gains t u (record { group = group; seg = seg })) (is_gained t m.notes.items u) ∙ sym (gained_after m k v lane act e may refl t u)));
+        loaded = k.loaded ∙ sym (loaded_after act e may refl (λ f. cc));
+        mirrors = mirrors_after act e may refl (λ f. cc) (mirrors_miss o m.notes sets k.legal k.mirrors new lane count stay);
+        cursors = λ h n l. k.cursors h n l ∙ sym (cursor_after act e may refl (λ f. cc) n);
         held = k.held;
-        live = omega (arith, live_or m k group.0 seg may, units_same (is_live (origin_in m) v.items) (λ u. covers seg u || is_live (origin_in m) m.notes.items u) m.units live_granted);
-        room = room;
+        live = live_after act e may refl (λ f. cc) m.live (k.live ∙ sym (live_still o m.notes k.legal lane act refl));
+        deferred = deferred_after act e may refl (λ f. cc) m.deferred (k.deferred ∙ sym (deferred_still o m.notes k.legal lane act refl refl));
       }
 
--- room for grants
+  pub kept_grant : (group : Group) (seg : Seg) (cursors : List ℕ) → notes ≡ after_act m.notes lane (Grant group seg) → MayGrant (origin_in m) m.notes group.0 seg
+      → ((u : ℕ) → new 0 u ≡ (not (covers seg u) && sets 0 u))
+      → ((u : ℕ) → new (allocating_of group.0) u ≡ (covers seg u || sets (allocating_of group.0) u))
+      → OthersStayBut sets new 0 (allocating_of group.0)
+      → ((number : ℕ) → number < 18 → slice_index cursors number ≡ cond (cursor_of seg.count == number) (end_of seg) (slice_index m.cursors number))
+      → IsKept new (record m { notes = notes; cursors = cursors; live = m.live + seg.count })
+  kept_grant group seg cursors e may left gained others moved =
+      let act : Act = Grant group seg in
+      let o = origin_in m in
+      record {
+        least = k.least;
+        most = k.most;
+        shift = k.shift;
+        base = k.base;
+        legal = legal_after act e may refl (λ f. cc);
+        enabled = enabled_after act e may refl (λ f. cc);
+        stays = stays_after act e may refl (λ f. cc);
+        collected = k.collected ∙ sym (collected_after act e may refl (λ f. cc));
+        settled = k.settled ∙ sym (settled_after act e may refl (λ f. cc));
+        order = k.order;
+        loaded = k.loaded ∙ sym (loaded_after act e may refl (λ f. cc));
+        mirrors = mirrors_after act e may refl (λ f. cc) (mirrors_grant o m.notes sets k.legal k.mirrors new lane group seg may left gained others);
+        cursors = λ h n l. moved n l ∙ (ap (λ c. cond (cursor_of seg.count == n) (end_of seg) c) (k.cursors h n l) ∙ sym (cursor_after act e may refl (λ f. cc) n));
+        held = k.held;
+        live = live_after act e may refl (λ f. cc) (m.live + seg.count) (omega (arith, k.live, live_grant o m.notes k.legal lane group seg may));
+        deferred = deferred_after act e may refl (λ f. cc) m.deferred (k.deferred ∙ sym (deferred_grant o m.notes k.legal lane group seg may));
+      }
 
-pub kept_spare : (m : Inside) (a : Vec Granted Global) → IsKept m → a.items ≡ m.allocating.items → IsKept (record m { allocating = a })
-kept_spare m a k e =
-    record {
-      least = k.least;
-      most = k.most;
-      base = k.base;
-      legal = k.legal;
-      made = k.made;
-      untouched = k.untouched;
-      collected = k.collected;
-      settled = k.settled;
-      order = k.order;
-      loaded = k.loaded;
-      apart = k.apart;
-      vacant = k.vacant;
-      rising = subst (λ (l : List Granted). AreSegs m.units (segs_of l)) (sym e) k.rising;
-      handed = λ u h. k.handed u (ap (λ (l : List Granted). covered (segs_of l) u) (sym e) ∙ h);
-      gained = λ t u h. ap (λ (l : List Granted). gained_in t l u) e ∙ k.gained t u h;
-      held = k.held;
-      live = k.live;
-      room = k.room;
-    }
+  pub kept_free : (group : Group) (seg : Seg) → notes ≡ after_act m.notes lane (Free group seg) → MayFree (origin_in m) m.notes group.0 seg
+      → ((u : ℕ) → new (freeing_of group.0) u ≡ (covers seg u || sets (freeing_of group.0) u))
+      → OthersStay sets new (freeing_of group.0)
+      → IsKept new (record m { notes = notes; live = m.live - seg.count; deferred = m.deferred + seg.count })
+  kept_free group seg e may given others =
+      let act : Act = Free group seg in
+      let o = origin_in m in
+      record {
+        least = k.least;
+        most = k.most;
+        shift = k.shift;
+        base = k.base;
+        legal = legal_after act e may refl (λ f. cc);
+        enabled = enabled_after act e may refl (λ f. cc);
+        stays = stays_after act e may refl (λ f. cc);
+        collected = k.collected ∙ sym (collected_after act e may refl (λ f. cc));
+        settled = k.settled ∙ sym (settled_after act e may refl (λ f. cc));
+        order = k.order;
+        loaded = k.loaded ∙ sym (loaded_after act e may refl (λ f. cc));
+        mirrors = mirrors_after act e may refl (λ f. cc) (mirrors_free o m.notes sets k.legal k.mirrors new lane group seg may given others);
+        cursors = λ h n l. k.cursors h n l ∙ sym (cursor_after act e may refl (λ f. cc) n);
+        held = k.held;
+        live = live_after act e may refl (λ f. cc) (m.live - seg.count) (omega (arith, k.live, live_free o m.notes k.legal lane group seg may));
+        deferred = deferred_after act e may refl (λ f. cc) (m.deferred + seg.count) (omega (arith, k.deferred, deferred_free o m.notes k.legal lane group seg may));
+      }
 
--- the grants of one group are let go
+  pub kept_unalloc : (group : Group) (seg : Seg) → notes ≡ after_act m.notes lane (Unalloc group seg) → MayTakeBack (origin_in m) m.notes lane group.0 seg
+      → ((u : ℕ) → new 0 u ≡ (covers seg u || sets 0 u))
+      → ((u : ℕ) → new (allocating_of group.0) u ≡ (not (covers seg u) && sets (allocating_of group.0) u))
+      → OthersStayBut sets new 0 (allocating_of group.0)
+      → IsKept new (record m { notes = notes; live = m.live - seg.count })
+  kept_unalloc group seg e may back left others =
+      let act : Act = Unalloc group seg in
+      let o = origin_in m in
+      record {
+        least = k.least;
+        most = k.most;
+        shift = k.shift;
+        base = k.base;
+        legal = legal_after act e may refl (λ f. cc);
+        enabled = enabled_after act e may refl (λ f. cc);
+        stays = stays_after act e may refl (λ f. cc);
+        collected = k.collected ∙ sym (collected_after act e may refl (λ f. cc));
+        settled = k.settled ∙ sym (settled_after act e may refl (λ f. cc));
+        order = k.order;
+        loaded = k.loaded ∙ sym (loaded_after act e may refl (λ f. cc));
+        mirrors = mirrors_after act e may refl (λ f. cc) (mirrors_unalloc o m.notes sets k.legal k.mirrors new lane group seg may back left others);
+        cursors = λ h n l. k.cursors h n l ∙ sym (cursor_after act e may refl (λ f. cc) n);
+        held = k.held;
+        live = live_after act e may refl (λ f. cc) (m.live - seg.count) (omega (arith, k.live, live_unalloc o m.notes k.legal lane group seg may));
+        deferred = deferred_after act e may refl (λ f. cc) m.deferred (k.deferred ∙ sym (deferred_unalloc o m.notes k.legal lane group seg may));
+      }
 
-rising_if : (b : Bool) (low high : ℕ) (g : Granted) (gs : List Granted) → low ≤ g.seg.start → 0 < g.seg.count → AreRisingFrom (end_of g.seg) high (segs_of gs) → AreRisingFrom low high (segs_of (cond b (g ∷ gs) gs))
-rising_if true low high g gs le some a = (le, (some, a))
-rising_if false low high g gs le some a = rising_low low (end_of g.seg) high (segs_of gs) (omega arith) a
+  pub kept_collect : (group : Group) → notes ≡ after_act m.notes lane (Collect group) → group.0 ≡ m.collected + 1
+      → ((u : ℕ) → new (allocating_of group.0) u ≡ false) → OthersStay sets new (allocating_of group.0)
+      → IsKept new (record m { notes = notes; collected = group.0 })
+  kept_collect group e next empty others =
+      let act : Act = Collect group in
+      let o = origin_in m in
+      let may : MayDo o m.notes lane act = omega (arith, k.collected) in
+      record {
+        least = k.least;
+        most = k.most;
+        shift = k.shift;
+        base = k.base;
+        legal = legal_after act e may refl (λ f. cc);
+        enabled = enabled_after act e may refl (λ f. cc);
+        stays = stays_after act e may refl (λ f. cc);
+        collected = sym (collected_after act e may refl (λ f. cc));
+        settled = k.settled ∙ sym (settled_after act e may refl (λ f. cc));
+        order = omega (arith, k.order);
+        loaded = k.loaded ∙ sym (loaded_after act e may refl (λ f. cc));
+        mirrors = mirrors_after act e may refl (λ f. cc) (mirrors_collect o m.notes sets k.legal k.mirrors new lane group may empty others);
+        cursors = λ h n l. k.cursors h n l ∙ sym (cursor_after act e may refl (λ f. cc) n);
+        held = k.held;
+        live = live_after act e may refl (λ f. cc) m.live (k.live ∙ sym (live_still o m.notes k.legal lane act refl));
+        deferred = deferred_after act e may refl (λ f. cc) m.deferred (k.deferred ∙ sym (deferred_still o m.notes k.legal lane act refl refl));
+      }
 
-filter_rising : (p : Granted → Bool) (low high : ℕ) (grants : List Granted) → AreRisingFrom low high (segs_of grants) → AreRisingFrom low high (segs_of (filter p grants))
-filter_rising p low high [] a = a
-filter_rising p low high (g ∷ gs) a = rising_if (p g) low high g (filter p gs) a.0 a.1.0 (filter_rising p (end_of g.seg) high gs a.1.1)
+  pub kept_settle : (group : Group) (gone : ℕ) → notes ≡ after_act m.notes lane (Settle group) → group.0 ≡ m.settled + 1 → group.0 ≤ m.collected
+      → Settles m.loaded sets new group.0 → gone ≡ units_in (sets (deferred_of group.0)) m.units
+      → IsKept new (record m { notes = notes; settled = group.0; deferred = m.deferred - gone })
+  kept_settle group gone e next closed moves same =
+      let act : Act = Settle group in
+      let o = origin_in m in
+      let may : MayDo o m.notes lane act = (omega (arith, k.settled), omega (arith, k.collected)) in
+      record {
+        least = k.least;
+        most = k.most;
+        shift = k.shift;
+        base = k.base;
+        legal = legal_after act e may refl (λ f. cc);
+        enabled = enabled_after act e may refl (λ f. cc);
+        stays = stays_after act e may refl (λ f. cc);
+        collected = k.collected ∙ sym (collected_after act e may refl (λ f. cc));
+        settled = sym (settled_after act e may refl (λ f. cc));
+        order = closed;
+        loaded = k.loaded ∙ sym (loaded_after act e may refl (λ f. cc));
+        mirrors =
+            mirrors_after act e may refl (λ f. cc)
+            (mirrors_settle o m.notes sets k.legal k.mirrors new lane group may.0 may.1 (subst (λ b. Settles b sets new group.0) k.loaded moves));
+        cursors = λ h n l. k.cursors h n l ∙ sym (cursor_after act e may refl (λ f. cc) n);
+        held = k.held;
+        live = live_after act e may refl (λ f. cc) m.live (k.live ∙ sym (live_still o m.notes k.legal lane act refl));
+        deferred = deferred_after act e may refl (λ f. cc) (m.deferred - gone) (omega (arith, k.deferred, deferred_settle o m.notes k.legal sets k.mirrors lane group may.0));
+      }
 
-any_if : (b : Bool) (q : Granted → Bool) (g : Granted) (gs : List Granted) → list_any q (cond b (g ∷ gs) gs) ≡ true → (q g || list_any q gs) ≡ true
-any_if true q g gs e = e
-any_if false q g gs e = or_right (q g) (list_any q gs) e
+  pub kept_load : (cursors : List ℕ) (given : List Seg) → notes ≡ after_act m.notes lane Load → m.loaded ≡ false
+      → ((u : ℕ) → u < m.units → new 0 u ≡ not (covered given u)) → ((u : ℕ) → m.units ≤ u → new 0 u ≡ false) → OthersStay sets new 0
+      → ((u : ℕ) → u < m.units → covered given u ≡ held (origin_in m) m.notes (settled_group (origin_in m) m.notes) u)
+      → ((number : ℕ) → number < 18 → slice_index cursors number ≡ 0)
+      → IsKept new (record m { notes = notes; cursors = cursors; loaded = true })
+  kept_load cursors given e idle gaps above others holds start =
+      let act : Act = Load in
+      let o = origin_in m in
+      let may : MayDo o m.notes lane act = sym k.loaded ∙ idle in
+      record {
+        least = k.least;
+        most = k.most;
+        shift = k.shift;
+        base = k.base;
+        legal = legal_after act e may refl (λ f. cc);
+        enabled = enabled_after act e may refl (λ f. cc);
+        stays = stays_after act e may refl (λ f. cc);
+        collected = k.collected ∙ sym (collected_after act e may refl (λ f. cc));
+        settled = k.settled ∙ sym (settled_after act e may refl (λ f. cc));
+        order = k.order;
+        loaded = sym (loaded_after act e may refl (λ f. cc));
+        mirrors =
+            mirrors_after act e may refl (λ f. cc)
+            (mirrors_load o m.notes sets k.legal k.mirrors new lane may
+            (λ u l. gaps u l ∙ ap not (holds u l) ∙ sym (vacant_held sets m k idle (settled_group o m.notes) u)) above others);
+        cursors = λ h n l. start n l ∙ sym (cursor_after act e may refl (λ f. cc) n);
+        held = k.held;
+        live = live_after act e may refl (λ f. cc) m.live (k.live ∙ sym (live_still o m.notes k.legal lane act refl));
+        deferred = deferred_after act e may refl (λ f. cc) m.deferred (k.deferred ∙ sym (deferred_still o m.notes k.legal lane act refl refl));
+      }
 
-or_mono : (a b c : Bool) → (a || b) ≡ true → (b ≡ true → c ≡ true) → (a || c) ≡ true
-or_mono true b c e f = refl
-or_mono false b c e f = f e
+-- before the first note each group holds the base
 
-filter_any : (p q : Granted → Bool) (grants : List Granted) → list_any q (filter p grants) ≡ true → list_any q grants ≡ true
-filter_any p q [] e = e
-filter_any p q (g ∷ gs) e = or_mono (q g) (list_any q (filter p gs)) (list_any q gs) (any_if (p g) q g (filter p gs) e) (filter_any p q gs)
+base_is : (b : Bool) (opened : ℕ) → b ≡ is_grant (cond b (granted None opened) untouched)
+base_is true opened = refl
+base_is false opened = refl
 
-abbrev pub stays_open : ℕ → Granted → Bool
-stays_open group g = not (g.group.0 == group)
-
-drop_one : (b x rest : Bool) (q : Granted → Bool) (g : Granted) (gs : List Granted) → (b ≡ true → q g ≡ false) → list_any q (cond (not b) (g ∷ gs) gs) ≡ (q g || list_any q gs)
-drop_one true x rest q g gs f = rw (f refl)
-drop_one false x rest q g gs f = refl
-
-same_group : (a b t : ℕ) → b < t → (a == b) ≡ true → (a == t) ≡ false
-same_group a b t l e = grind (arith, nat_tests)
-
-gained_dropped : (group t u : ℕ) (grants : List Granted) → group < t → gained_in t (filter (stays_open group) grants) u ≡ gained_in t grants u
-gained_dropped group t u [] l = refl
-gained_dropped group t u (g ∷ gs) l =
-    drop_one (g.group.0 == group) true true (gains t u) g (filter (stays_open group) gs) (λ e. rw (same_group g.group.0 group t l e)) ∙ ap (λ b. gains t u g || b) (gained_dropped group t u gs l)
-
-pub kept_collect : (m : Inside) (k : IsKept m) (v : Notes) (a : Vec Granted Global) (lane : ℕ) (group : Group) → v.items ≡ m.notes.items ++ record { lane = lane; act = Collect group } ∷ []
-    → group.0 ≡ m.collected.0 + 1 → a.items ≡ filter (stays_open group.0) m.allocating.items → vec_len v + group.0 ≤ vec_capacity v + m.settled.0
-    → IsKept (record m { notes = v; allocating = a; collected = group })
-kept_collect m k v a lane group e next left room =
-    let act : Act = Collect group in
-    let may : MayDo (origin_in m) m.notes.items lane act = omega (arith, k.collected) in
-    record {
-      least = k.least;
-      most = k.most;
-      base = k.base;
-      legal = legal_after m k v lane act e may refl;
-      made = made_after m k v lane act e may refl;
-      untouched = untouched_after m k v lane act e may refl refl;
-      collected = sym (collected_after m k v lane act e may refl);
-      settled = k.settled ∙ sym (settled_after m k v lane act e may refl);
-      order = omega (arith, k.order);
-      loaded = k.loaded ∙ sym (loaded_after m k v lane act e may refl);
-      apart = k.apart;
-      vacant = λ h u l. k.vacant h u l ∙ sym (vacant_still m k v lane act e may refl refl u);
-      rising = subst (λ (l : List Granted). AreSegs m.units (segs_of l)) (sym left) (filter_rising (stays_open group.0) 0 m.units m.allocating.items k.rising);
-      handed = λ u h.
-          live_still m k v lane act e may refl refl u ∙ k.handed u
-          (covered_segs m.allocating.items u ∙ filter_any (stays_open group.0) (λ g. covers g.seg u) m.allocating.items
-          (sym (covered_segs (filter (stays_open group.0) m.allocating.items) u) ∙ (ap (λ (l : List Granted). covered (segs_of l) u) (sym left) ∙ h)));
-      gained = λ t u h.
-          ap (λ (l : List Granted). gained_in t l u) left ∙ (gained_dropped group.0 t u m.allocating.items h
-          ∙ (k.gained t u (omega arith) ∙ sym (gained_after m k v lane act e may refl t u)));
-      held = k.held;
-      live = live_count m k v lane act e may refl refl;
-      room = room;
-    }
-
-pub none_given : (m : Inside) → IsKept m → (t : ℕ) → AreMaximalRuns (is_given t m.notes.items) m.units []
-none_given m k t = maximal (is_given t m.notes.items) m.units [] (omega arith) (λ u l. sym (given_none t m.notes.items u k.made))
-
--- what the gathered runs are
-module _ (m : Inside) (k : IsKept m) (t : ℕ) (later : m.collected.0 < t) (runs : List Seg)
-    (apart : (units : ℕ) → AreSegs units (segs_of m.allocating.items) → AreApartFrom 0 (units + 1) runs) (whole : (u : ℕ) → covered runs u ≡ gained_in t m.allocating.items u) where
-  gained_runs : AreMaximalRuns (is_gained t m.notes.items) m.units runs
-  gained_runs = maximal (is_gained t m.notes.items) m.units runs (apart m.units k.rising) (λ u l. whole u ∙ k.gained t u later)
-
-  changed_is : changed_runs m.notes.items m.units t ≡ length runs
-  changed_is =
-      omega (
-        arith,
-        run_count_same (covered runs) (is_gained t m.notes.items) m.units (λ u. whole u ∙ k.gained t u later),
-        run_count-length 0 m.units runs (apart m.units k.rising),
-        units_none (begins_run (is_given t m.notes.items)) m.units (λ u. rw (given_none t m.notes.items u k.made)),
-      )
-
--- what `gather` tells of the grants of a group
-abbrev pub Gathered : Inside → ℕ → ℕ → ℕ → List Seg → Type 0
-Gathered m t room need items =
-    (runs : List Seg) × (((units : ℕ) → AreSegs units (segs_of m.allocating.items) → AreApartFrom 0 (units + 1) runs)
-    × (((u : ℕ) → covered runs u ≡ gained_in t m.allocating.items u) × ((need ≡ length runs) × (items ≡ take room runs))))
-
-pub gathered_need : (m : Inside) → IsKept m → (t room need : ℕ) (items : List Seg) → m.collected.0 < t → Gathered m t room need items → changed_runs m.notes.items m.units t ≡ need
-gathered_need m k t room need items later g = changed_is m k t later g.0 g.1.0 g.1.1.0 ∙ sym g.1.1.1.0
-
-pub gathered_runs : (m : Inside) → IsKept m → (t room need : ℕ) (items : List Seg) → m.collected.0 < t → Gathered m t room need items → need ≤ room
-    → AreMaximalRuns (is_gained t m.notes.items) m.units items
-gathered_runs m k t room need items later g fits =
-    let all : items ≡ g.0 = g.1.1.1.1 ∙ take_all room g.0 (omega (arith, g.1.1.1.0)) in
-    subst (AreMaximalRuns (is_gained t m.notes.items) m.units) (sym all) (gained_runs m k t later g.0 g.1.0 g.1.1.0)
+pub held_none : (o : Origin) (h : List Noted) (t u : ℕ) → h ≡ [] → o.base u ≡ held o h t u
+held_none o h t u e = subst (λ l. o.base u ≡ held o l t u) (sym e) (base_is (o.base u) o.opened)

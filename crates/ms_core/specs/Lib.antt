@@ -1,4 +1,6 @@
-pub mod Apart
 pub mod State
 pub mod Buffers
+pub mod Mirrors
+pub mod Asked
+pub mod Weights
 pub mod Kept

@@ -8,10 +8,13 @@
 
 mod buffer;
 mod faults;
+mod free_space;
+mod looking;
 mod metaslab;
-mod runs;
+mod stepping;
 #[cfg(test)]
 mod tests;
+mod walking;
 
 pub use buffer::RunBuf;
 pub use faults::{Counts, MsFault};

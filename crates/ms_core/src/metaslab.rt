@@ -1,30 +1,49 @@
-ghost use Rattle.std.specs.Prelude.{◌≡◌, ℕ, ◌+◌, ◌*◌, ◌^◌, ◌<◌, ◌≤◌, Bool, true, false, [], ◌∷◌, ◌++◌, Some, None, OnOk, OnErr, IfOk, IfErr, IfSome, IfNone, IsOk};
+ghost use Rattle.std.specs.Prelude.{◌≡◌, ℕ, ◌+◌, ◌*◌, ◌^◌, ◌<◌, ◌≤◌, ◌==◌, ◌↔◌, if◌then◌else◌, slice_index, true, false, [], Some, IsTrue, OnOk, OnErr, IfOk, IfErr, IfSome, IfNone, IsOk};
 ghost use Rattle.std.specs.Vec.{vec_len, vec_capacity};
-ghost use Rattle.zms_units.specs.Segments.{covered, Covers, AreSegs};
-ghost use Rattle.zms_units.specs.declared.segments.Group.{Group};
-ghost use Rattle.ms_model.specs.Units.{held as holds, is_loaded};
-ghost use Rattle.ms_model.specs.Runs.{AreMaximalRuns};
-ghost use Rattle.ms_model.specs.Counts.{units_in, live_units, deferred_units, vacant_units};
+ghost use Rattle.zms_units.specs.Cursors.{cursor_of};
+ghost use Rattle.zms_units.specs.Segments.{end_of, covered, Covers, AreSegs};
+ghost use Rattle.zms_units.specs.Runs.{units_in, run_count, AreMaximalRuns};
+ghost use Rattle.zms_units.specs.Weights.{IsHistogramOf};
+ghost use Rattle.seg_trees.specs.Sets.{AreDisjoint};
+ghost use Rattle.ms_model.specs.Units.{granted, held as holds, is_loaded, last_act};
+ghost use Rattle.ms_model.specs.Spaces.{is_vacant};
+ghost use Rattle.ms_model.specs.Counts.{live_units, deferred_units, vacant_units};
 ghost use Rattle.ms_model.specs.Gains.{is_gained, is_given};
-ghost use Rattle.ms_model.specs.Legal.{IsLegal, MayGrant, MayMiss};
+ghost use Rattle.ms_model.specs.Legal.{IsLegal, IsWithin, IsOpenGroup, IsGrantedBy, MayGrant, MayMiss, MayFree, MayTakeBack};
 ghost use Rattle.ms_model.specs.Laws.{IsFreeOfAll};
-ghost use Rattle.ms_model.specs.declared.notes.Act.TheVariants.{Grant, Miss, Collect, Settle, Load};
+ghost use Rattle.ms_model.specs.declared.notes.Act.TheVariants.{Grant, Free, Unalloc, Miss, Collect, Settle, Load};
 ghost use Rattle.ms_core.specs.State.{origin_of, settled_of, collected_of, noted, StaysButNotes, StaysButRoom};
 ghost use Rattle.ms_core.specs.Buffers.{run_room, changed_runs};
+ghost use Rattle.ms_core.specs.Mirrors.{Settles, allocating_of, freeing_of, deferred_of};
+ghost use Rattle.ms_core.specs.Asked.{IsLowestLacking};
+ghost use Rattle.ms_core.specs.Weights.{IsWeightOfSet, as_one_run};
 
-use crate::runs::{Granted, first_long, gather, insert_grant, push_gaps, take_front, unit_count};
-use crate::{Counts, MsFault, RunBuf};
+use crate::free_space::{ALLOCATABLE, FreeSpace};
+use crate::looking::{first_foreign, lower, lowest_in};
+use crate::walking::{add_gaps, one_run, push_runs, unit_count};
+use crate::{Counts, MsFault, RunBuf, stepping};
+use fit_rule::fit;
 use ms_model::{Act, MsJournal, Noted};
+use ms_weight::weight_of;
+use seg_trees::SegTrees;
 use std::alloc::{AllocError, Global};
 use std::marker::Model;
-use zms_units::{Group, Items, MAX_UNITS, MsId, Seg, VdevRow};
+use zms_units::{Group, Histogram, Items, MAX_UNITS, MsId, Seg, VdevRow};
+
+/// The trees of the units that are not handed out: vacant, freed or deferred.
+const NOT_HANDED_OUT: [u8; 7] = [0, 5, 6, 7, 8, 9, 10];
 
 /// The notes for which a new metaslab takes memory.
 const FIRST_NOTES: usize = 16;
 
 /// A metaslab, after `metaslab_t`: a range of a vdev, its journal, and what makes each action on it quick.
+///
+/// Tree 0 is its vacant units while it is loaded, and empty before: `ms_allocatable`. Trees 1 to 4 are what the groups
+/// above the collected one gained, by group modulo 4: `ms_allocating`. Trees 5 to 8 are what the groups above the settled
+/// one gave back, by group modulo 4: `ms_freeing` and `ms_freed`. Trees 9 and 10 are what the last two settled groups gave
+/// back, by group modulo 2: `ms_defer`.
 #[derive(Debug, Drop)]
-pub struct Metaslab {
+pub struct Metaslab<R: SegTrees> {
     id: MsId,
     units: u32,
     ashift: u8,
@@ -32,27 +51,27 @@ pub struct Metaslab {
     base: Vec<Seg>,
     notes: Vec<Noted>,
     loaded: bool,
-    // While it is loaded, the maximal runs of its vacant units, rising: `ms_allocatable`.
-    vacant: Vec<Seg>,
-    // What was granted in groups that are not collected, rising: `ms_allocating`.
-    allocating: Vec<Granted>,
+    trees: R,
+    // While it is loaded, where the last grant ended whose count has its lowest set bit at this place: `ms_lbas`.
+    cursors: [u32; 18],
     collected: Group,
     settled: Group,
-    // How many units the base holds, and how many are handed out.
+    // How many units the base holds, and how many are handed out, and freed but not vacant yet.
     held: u32,
     live: u32,
+    deferred: u32,
 }
 
-impl Model for Metaslab {
+impl<R: SegTrees> Model for Metaslab<R> {
     ghost use Rattle.ms_core.specs.State.{MsState};
 
     ghost Value = { MsState };
 
-    ghost use Rattle.ms_core.specs.Kept.{state_in, IsKept};
+    ghost use Rattle.ms_core.specs.Kept.{state_in, HoldsTogether};
 
-    ghost view = { state_in };
+    ghost view = { state_in R.spare };
 
-    ghost invariant = { IsKept };
+    ghost invariant = { HoldsTogether R.set };
 }
 
 /// Adds a lane's act to a journal that has room for it.
@@ -65,7 +84,53 @@ fn push_note(notes: &mut Vec<Noted>, lane: u8, act: Act)
     notes.push_reserved(Noted { lane, act });
 }
 
-impl Metaslab {
+/// Sets the cursor of a segment's count to the segment's end.
+#[tactic(auto, using(crate::proofs::Cursors::cursor_within))]
+fn move_cursor(cursors: &mut [u32; 18], seg: Seg)
+    requires count { (1 ≤ seg.count) × (seg.count ≤ MAX_UNITS) }
+    requires within { end_of seg ≤ MAX_UNITS }
+    ensures { (number : ℕ) → number < 18 → slice_index cursors.new number ≡ (if cursor_of seg.count == number then end_of seg else slice_index cursors.old number) }
+{
+    cursors[seg.count.trailing_zeros() as usize] = seg.start + seg.count;
+}
+
+/// The tree of what a group gained.
+fn allocating_tree(group: Group) -> u8
+    ensures { result ≡ allocating_of group.0 }
+{
+    1 + (group.0 % 4) as u8
+}
+
+/// The tree of what a group gave back, until it is settled.
+fn freeing_tree(group: Group) -> u8
+    ensures { result ≡ freeing_of group.0 }
+{
+    5 + (group.0 % 4) as u8
+}
+
+/// The tree of what a group gave back, from its settle to the second one after it.
+fn deferred_tree(group: Group) -> u8
+    ensures { result ≡ deferred_of group.0 }
+{
+    9 + (group.0 % 2) as u8
+}
+
+/// What a settle does to the trees: what was deferred until now is vacant, or let go where free space is not in memory,
+/// and what the group gave back is deferred.
+fn settle_trees<R: SegTrees>(trees: &mut R, group: Group, loaded: bool)
+    requires { AreDisjoint (R.set trees.old (deferred_of group.0)) (R.set trees.old 0) }
+    ensures moves { Settles loaded (R.set trees.old) (R.set trees.new) group.0 }
+    ensures spare { R.spare trees.old ≤ R.spare trees.new }
+{
+    if loaded {
+        trees.vacate(deferred_tree(group), ALLOCATABLE);
+    } else {
+        trees.clear(deferred_tree(group));
+    }
+    trees.vacate(freeing_tree(group), deferred_tree(group));
+}
+
+impl<R: SegTrees> Metaslab<R> {
     /// A metaslab as its pool opens it: `base` is what the opened group holds of it, and its free space is not in memory.
     ///
     /// Where there is no memory the base is handed back. Costs the length of the base.
@@ -75,7 +140,7 @@ impl Metaslab {
         row: &VdevRow,
         opened: Group,
         base: Vec<Seg>,
-    ) -> Result<Metaslab, Vec<Seg>>
+    ) -> Result<Self, Vec<Seg>>
         requires units { (64 ≤ row.now.units) × (row.now.units ≤ MAX_UNITS) }
         requires ashift { (9 ≤ row.now.ashift) × (row.now.ashift ≤ 12) }
         requires opened { (4 ≤ opened.0) × (opened.0 < 2 ^ 49) }
@@ -100,12 +165,13 @@ impl Metaslab {
             base,
             notes,
             loaded: false,
-            vacant: Vec::new(alloc),
-            allocating: Vec::new(alloc),
+            trees: R::new(alloc),
+            cursors: [0; 18],
             collected: opened,
             settled: opened,
             held,
             live: held,
+            deferred: 0,
         })
     }
 
@@ -117,14 +183,19 @@ impl Metaslab {
     {
         let unsettled = (self.collected.0 - self.settled.0) as usize;
         self.notes.reserve(unsettled + 2)?;
-        self.allocating.reserve(1)
+        self.trees.reserve(2)
     }
 
-    /// Hands out the lowest `count` units in a row, in this group, as `metaslab_block_alloc` does: the first units of the
-    /// lowest maximal vacant run that is long enough. `None` where there is no such run; both are noted.
+    /// Hands out `count` units in a row, in this group, as `metaslab_block_alloc` does with `metaslab_df_alloc`: the first
+    /// units of a maximal vacant run that is long enough. `None` where no so many vacant units stand in a row; both are
+    /// noted.
+    ///
+    /// Where space is ample, which is where some vacant run has 131,072 bytes and one unit in 25 is vacant, the run is the
+    /// next one from the cursor on, and else from the start: the cursor is the end of the last grant since the load whose
+    /// count has the same lowest set bit. Where space is scarce it is the shortest, and of these the lowest.
     ///
     /// `Late` where the group was collected, else `NotLoaded` where free space is not in memory. Takes no memory. Costs
-    /// the vacant runs up to the one that is taken, and the moves of those behind it and of the open grants behind the new one.
+    /// at most seven calls on the trees.
     pub fn grant(&mut self, lane: u8, group: Group, count: u32) -> Result<Option<Seg>, MsFault>
         requires lane { (1 ≤ lane) × (lane ≤ 16) }
         requires group { group.0 ≤ settled_of self.old + 3 }
@@ -158,22 +229,191 @@ impl Metaslab {
         if !self.loaded {
             return Err(MsFault::NotLoaded);
         }
-        let Some(index) = first_long(&self.vacant, count) else {
+        let free = FreeSpace::new(&self.trees, self.units);
+        let Some(seg) = fit(&free, self.ashift, &self.cursors, count) else {
             push_note(&mut self.notes, lane, Act::Miss { count });
             return Ok(None);
         };
-        let seg = take_front(&mut self.vacant, index, count);
-        insert_grant(&mut self.allocating, Granted { group, seg });
+        stepping::move_seg(&mut self.trees, ALLOCATABLE, allocating_tree(group), seg);
+        move_cursor(&mut self.cursors, seg);
         self.live += count;
         push_note(&mut self.notes, lane, Act::Grant { group, seg });
         Ok(Some(seg))
     }
 
+    /// The lowest unit of a segment that is not handed out in a group of at most this one.
+    fn first_not_live(&self, group: Group, seg: Seg) -> Option<u32>
+        requires loaded { is_loaded self.now.notes ≡ true }
+        requires group { IsOpenGroup (origin_of self.now) self.now.notes group.0 }
+        requires segment { IsWithin self.now.units seg }
+        ensures found { IfSome result (IsLowestLacking (λ u. IsGrantedBy group.0 (last_act (origin_of self.now) self.now.notes u)) seg) }
+        ensures none { IfNone result ((u : ℕ) → Covers seg u → IsGrantedBy group.0 (last_act (origin_of self.now) self.now.notes u)) }
+    {
+        let later = [
+            1 + ((group.0 % 4 + 1) % 4) as u8,
+            1 + ((group.0 % 4 + 2) % 4) as u8,
+            1 + ((group.0 % 4 + 3) % 4) as u8,
+        ];
+        let open = 4 - (group.0 - self.collected.0) as usize;
+        let given = lowest_in(&self.trees, &NOT_HANDED_OUT, seg);
+        let later = lowest_in(&self.trees, &later[..open], seg);
+        lower(given, later, seg)
+    }
+
+    /// Frees a segment in this group, as `metaslab_free_concrete` does: it is deferred, and vacant again from the second
+    /// settle after the group's own.
+    ///
+    /// `Late` where the group was collected, else `NotLoaded` where free space is not in memory, else `NotLive` with the
+    /// lowest unit that is not handed out in a group of at most this one. Takes no memory. Costs at most eleven calls on
+    /// the trees.
+    pub fn free(&mut self, lane: u8, group: Group, seg: Seg) -> Result<(), MsFault>
+        requires lane { (1 ≤ lane) × (lane ≤ 16) }
+        requires group { group.0 ≤ settled_of self.old + 3 }
+        requires segment { IsWithin self.old.units seg }
+        requires room { 0 < self.old.room }
+
+        // Which answer comes, and when.
+        ensures late { group.0 ≤ collected_of self.old → result ≡ Err (MsFault.Late group (record { 0 = collected_of self.old })) }
+        ensures not_loaded { collected_of self.old < group.0 → is_loaded self.old.notes ≡ false → result ≡ Err MsFault.NotLoaded }
+        ensures not_live { (unit : ℕ) → collected_of self.old < group.0 → is_loaded self.old.notes ≡ true → IsLowestLacking (λ u. IsGrantedBy group.0 (last_act (origin_of self.old) self.old.notes u)) seg unit → result ≡ Err (MsFault.NotLive unit) }
+        ensures taken { collected_of self.old < group.0 → is_loaded self.old.notes ≡ true → ((u : ℕ) → Covers seg u → IsGrantedBy group.0 (last_act (origin_of self.old) self.old.notes u)) → IsOk result }
+
+        // What is noted, and what stays.
+        ensures freed { OnOk result (MayFree (origin_of self.old) self.old.notes group.0 seg) }
+        ensures note { OnOk result (self.new.notes ≡ noted self.old.notes lane (Free group seg)) }
+        ensures stays { StaysButNotes self.old self.new }
+        ensures room { self.old.room ≤ self.new.room + 1 }
+        ensures err { OnErr result (self.new ≡ self.old) }
+    {
+        if group.0 <= self.collected.0 {
+            return Err(MsFault::Late {
+                group,
+                collected: self.collected,
+            });
+        }
+        if !self.loaded {
+            return Err(MsFault::NotLoaded);
+        }
+        if let Some(unit) = self.first_not_live(group, seg) {
+            return Err(MsFault::NotLive { unit });
+        }
+        stepping::add(&mut self.trees, freeing_tree(group), seg);
+        self.live -= seg.count;
+        self.deferred += seg.count;
+        push_note(&mut self.notes, lane, Act::Free { group, seg });
+        Ok(())
+    }
+
+    /// The lowest unit of a segment whose last act is not a grant of this group by this lane.
+    fn first_not_own(&self, lane: u8, group: Group, seg: Seg) -> Option<u32>
+        requires { IsWithin self.now.units seg }
+        ensures found { IfSome result (IsLowestLacking (λ u. last_act (origin_of self.now) self.now.notes u ≡ granted (Some lane) group.0) seg) }
+        ensures none { IfNone result ((u : ℕ) → Covers seg u → last_act (origin_of self.now) self.now.notes u ≡ granted (Some lane) group.0) }
+    {
+        first_foreign(&self.notes, lane, group, seg)
+    }
+
+    /// Takes back what this lane was handed out in this group, as `metaslab_unalloc_dva` does: it is vacant at once.
+    ///
+    /// `Late` where the group was collected, else `NotLoaded` where free space is not in memory, else `NotLive` with the
+    /// lowest unit whose last act is not a grant of exactly this group by this lane. Takes no memory. Costs two calls on
+    /// the trees and, for each piece of the segment that was granted at once, a look back through the notes up to the
+    /// settle of the group three before this one.
+    pub fn unalloc(&mut self, lane: u8, group: Group, seg: Seg) -> Result<(), MsFault>
+        requires lane { (1 ≤ lane) × (lane ≤ 16) }
+        requires group { group.0 ≤ settled_of self.old + 3 }
+        requires segment { IsWithin self.old.units seg }
+        requires room { 0 < self.old.room }
+
+        // Which answer comes, and when.
+        ensures late { group.0 ≤ collected_of self.old → result ≡ Err (MsFault.Late group (record { 0 = collected_of self.old })) }
+        ensures not_loaded { collected_of self.old < group.0 → is_loaded self.old.notes ≡ false → result ≡ Err MsFault.NotLoaded }
+        ensures not_live { (unit : ℕ) → collected_of self.old < group.0 → is_loaded self.old.notes ≡ true → IsLowestLacking (λ u. last_act (origin_of self.old) self.old.notes u ≡ granted (Some lane) group.0) seg unit → result ≡ Err (MsFault.NotLive unit) }
+        ensures taken { collected_of self.old < group.0 → is_loaded self.old.notes ≡ true → ((u : ℕ) → Covers seg u → last_act (origin_of self.old) self.old.notes u ≡ granted (Some lane) group.0) → IsOk result }
+
+        // What is noted, and what stays.
+        ensures taken_back { OnOk result (MayTakeBack (origin_of self.old) self.old.notes lane group.0 seg) }
+        ensures note { OnOk result (self.new.notes ≡ noted self.old.notes lane (Unalloc group seg)) }
+        ensures stays { StaysButNotes self.old self.new }
+        ensures room { self.old.room ≤ self.new.room + 1 }
+        ensures err { OnErr result (self.new ≡ self.old) }
+    {
+        if group.0 <= self.collected.0 {
+            return Err(MsFault::Late {
+                group,
+                collected: self.collected,
+            });
+        }
+        if !self.loaded {
+            return Err(MsFault::NotLoaded);
+        }
+        if let Some(unit) = self.first_not_own(lane, group, seg) {
+            return Err(MsFault::NotLive { unit });
+        }
+        stepping::move_seg(&mut self.trees, allocating_tree(group), ALLOCATABLE, seg);
+        self.live -= seg.count;
+        push_note(&mut self.notes, lane, Act::Unalloc { group, seg });
+        Ok(())
+    }
+
+    /// May this group have given something back? No group did that is more than three above the settled one.
+    fn gave_back(&self, group: Group) -> bool
+        ensures yes { result ≡ true → group.0 ≤ settled_of self.now + 3 }
+        ensures none { result ≡ false → (u : ℕ) → is_given group.0 self.now.notes u ≡ false }
+    {
+        group.0.saturating_sub(3) <= self.settled.0
+    }
+
+    /// How many runs the next group gained.
+    fn gained_runs(&self, group: Group) -> u64
+        requires { group.0 ≡ collected_of self.now + 1 }
+        ensures runs { result ≡ run_count (is_gained group.0 self.now.notes) self.now.units }
+        ensures bound { result < 2 ^ 32 }
+    {
+        self.trees.nodes(allocating_tree(group)) as u64
+    }
+
+    /// How many runs the next group gave back.
+    fn given_runs(&self, group: Group) -> u64
+        requires { group.0 ≡ collected_of self.now + 1 }
+        ensures runs { result ≡ run_count (is_given group.0 self.now.notes) self.now.units }
+        ensures bound { result < 2 ^ 32 }
+    {
+        if !self.gave_back(group) {
+            return 0;
+        }
+        self.trees.nodes(freeing_tree(group)) as u64
+    }
+
+    /// Writes the runs that the next group gained into an empty list, which has room for them.
+    fn push_gained(&self, group: Group, out: &mut Vec<Seg>)
+        requires group { group.0 ≡ collected_of self.now + 1 }
+        requires empty { out.old.items ≡ [] }
+        requires room { run_count (is_gained group.0 self.now.notes) self.now.units ≤ vec_capacity out.old }
+        ensures runs { AreMaximalRuns (is_gained group.0 self.now.notes) self.now.units out.new.items }
+        ensures capacity { vec_capacity out.new ≡ vec_capacity out.old }
+    {
+        push_runs(&self.trees, allocating_tree(group), self.units, out);
+    }
+
+    /// Writes the runs that the next group gave back into an empty list, which has room for them.
+    fn push_given(&self, group: Group, out: &mut Vec<Seg>)
+        requires group { group.0 ≡ collected_of self.now + 1 }
+        requires empty { out.old.items ≡ [] }
+        requires room { run_count (is_given group.0 self.now.notes) self.now.units ≤ vec_capacity out.old }
+        ensures runs { AreMaximalRuns (is_given group.0 self.now.notes) self.now.units out.new.items }
+        ensures capacity { vec_capacity out.new ≡ vec_capacity out.old }
+    {
+        if self.gave_back(group) {
+            push_runs(&self.trees, freeing_tree(group), self.units, out);
+        }
+    }
+
     /// Gathers what the next group changed, as maximal runs, into an empty buffer, for the group's commit. Afterwards the
     /// group takes no more actions.
     ///
-    /// `Short`, and nothing changes, where the buffer has less room than there are runs. Takes no memory. Costs the
-    /// grants that were not collected.
+    /// `Short`, and nothing changes, where the buffer has less room than there are runs. Takes no memory. Costs a call on
+    /// the trees for each run.
     pub fn collect(&mut self, lane: u8, group: Group, buf: &mut RunBuf) -> Result<(), MsFault>
         requires lane { (1 ≤ lane) × (lane ≤ 16) }
         requires group { group.0 ≡ collected_of self.old + 1 }
@@ -191,19 +431,21 @@ impl Metaslab {
         // The buffer keeps its memory.
         ensures memory { (vec_capacity buf.new.allocs ≡ vec_capacity buf.old.allocs) × (vec_capacity buf.new.frees ≡ vec_capacity buf.old.frees) }
     {
-        let room = buf.room();
-        let need = gather(&self.allocating, group, room, &mut buf.allocs);
-        if need > room {
-            buf.allocs.clear();
+        let need = self.gained_runs(group) + self.given_runs(group);
+        if need > buf.room() {
             return Err(MsFault::Short { need });
         }
-        self.allocating.retain(|grant| grant.group.0 != group.0);
+        self.push_gained(group, &mut buf.allocs);
+        self.push_given(group, &mut buf.frees);
+        self.trees.clear(allocating_tree(group));
         self.collected = group;
         push_note(&mut self.notes, lane, Act::Collect { group });
         Ok(())
     }
 
-    /// The next group is lasting: its commit is done. Takes no memory, and none of the room that `ready` took.
+    /// The next group is lasting: its commit is done. What was freed two groups before it is vacant from now on, and what
+    /// was freed in it is deferred, as in `metaslab_sync_done`. Takes no memory, and none of the room that `ready` took.
+    /// Costs the runs of the trees of what is vacant, freed and deferred.
     pub fn settle(&mut self, lane: u8, group: Group)
         requires lane { (1 ≤ lane) × (lane ≤ 16) }
         requires group { group.0 ≡ settled_of self.old + 1 }
@@ -212,12 +454,15 @@ impl Metaslab {
         ensures stays { StaysButNotes self.old self.new }
         ensures room { self.old.room ≤ self.new.room }
     {
+        self.deferred -= self.trees.units(deferred_tree(group));
+        settle_trees(&mut self.trees, group, self.loaded);
         self.settled = group;
         push_note(&mut self.notes, lane, Act::Settle { group });
     }
 
     /// Brings free space into memory, as `metaslab_load` does: `held` is what the settled groups hold. Answers false, and
-    /// changes nothing, where it is there already. Needs no `ready`. Costs the length of `held`.
+    /// changes nothing, where it is there already. Needs no `ready`, and may use up what one took. Costs a call on the trees
+    /// for each gap of `held`.
     pub fn load(&mut self, lane: u8, held: &[Seg]) -> Result<bool, AllocError>
         requires lane { (1 ≤ lane) × (lane ≤ 16) }
         requires segs { AreSegs self.old.units held.now }
@@ -227,7 +472,6 @@ impl Metaslab {
         ensures note { result ≡ Ok true → self.new.notes ≡ noted self.old.notes lane Load }
         ensures same { result ≡ Ok false → self.new ≡ self.old }
         ensures stays { StaysButNotes self.old self.new }
-        ensures room { self.old.room ≤ self.new.room + 1 }
         ensures err { OnErr result (self.new.notes ≡ self.old.notes) }
     {
         if self.loaded {
@@ -235,9 +479,9 @@ impl Metaslab {
         }
         let unsettled = (self.collected.0 - self.settled.0) as usize;
         self.notes.reserve(unsettled + 1)?;
-        self.vacant.clear();
-        self.vacant.reserve(held.len() + 1)?;
-        push_gaps(&mut self.vacant, held, self.units);
+        self.trees.reserve(held.len() as u32 + 1)?;
+        add_gaps(&mut self.trees, held, self.units);
+        self.cursors = [0; 18];
         self.loaded = true;
         push_note(&mut self.notes, lane, Act::Load);
         Ok(true)
@@ -251,9 +495,34 @@ impl Metaslab {
     {
         Counts {
             live: self.live,
-            deferred: 0,
-            vacant: self.units - self.live,
+            deferred: self.deferred,
+            vacant: self.units - self.live - self.deferred,
         }
+    }
+
+    /// The histogram of the vacant runs or, while it is not loaded, of one run of as many units.
+    fn vacant_runs(&self) -> Histogram
+        ensures loaded { is_loaded self.now.notes ≡ true → IsHistogramOf (is_vacant (origin_of self.now) self.now.notes) self.now.units self.now.ashift result }
+        ensures unloaded { is_loaded self.now.notes ≡ false → IsHistogramOf (as_one_run (origin_of self.now) self.now.notes) self.now.units self.now.ashift result }
+    {
+        if self.loaded {
+            return self.trees.histogram(ALLOCATABLE, self.ashift);
+        }
+        one_run(
+            self.units - self.live - self.deferred,
+            self.ashift,
+            self.units,
+        )
+    }
+
+    /// Its weight, by which metaslabs are compared: that of its vacant runs and, while it is not loaded, of as many vacant
+    /// units in one run, so 0 where none is vacant. Costs a histogram of the trees. After `metaslab_segment_weight`
+    /// and `metaslab_weight_from_spacemap`.
+    pub fn weight(&self) -> u64
+        ensures loaded { is_loaded self.now.notes ≡ true → IsWeightOfSet (is_vacant (origin_of self.now) self.now.notes) self.now.units self.now.ashift result }
+        ensures unloaded { is_loaded self.now.notes ≡ false → IsWeightOfSet (as_one_run (origin_of self.now) self.now.notes) self.now.units self.now.ashift result }
+    {
+        weight_of(&self.vacant_runs())
     }
 
     /// The group that was settled last, or the opened one.
@@ -270,13 +539,22 @@ impl Metaslab {
         self.collected
     }
 
+    /// How many units it has.
+    pub fn units(&self) -> u32
+        ensures { result ≡ self.now.units }
+    {
+        self.units
+    }
+
     /// Is its free space in memory?
     pub fn loaded(&self) -> bool
         ensures { result ≡ is_loaded self.now.notes }
     {
         self.loaded
     }
+}
 
+impl<R: SegTrees + Drop> Metaslab<R> {
     /// The journal, with the metaslab's name, its units and their shift, and how many units the base holds. Takes no
     /// memory.
     pub fn into_journal(self) -> MsJournal

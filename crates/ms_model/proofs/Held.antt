@@ -117,7 +117,7 @@ held_act-all o h t u all =
     (same (all_left (λ n. ChangesAbove t n.act → ⊥) l (note ∷ []) both)))
     h all
 
-settled_by_grows : (o : Origin) (h : List Noted) (lane : ℕ) (act : Act) → MayDo o h lane act → settled_group o h ≤ settled_by (settled_group o h) act
+pub settled_by_grows : (o : Origin) (h : List Noted) (lane : ℕ) (act : Act) → MayDo o h lane act → settled_group o h ≤ settled_by (settled_group o h) act
 settled_by_grows o h lane (Grant group seg) may = omega arith
 settled_by_grows o h lane (Free group seg) may = omega arith
 settled_by_grows o h lane (Unalloc group seg) may = omega arith

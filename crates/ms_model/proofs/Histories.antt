@@ -8,6 +8,7 @@ use Rattle.std.proofs.lemmas.List.Folds.{list_any-append}
 use Rattle.std.proofs.lemmas.List.Sums.{fold_push}
 use Rattle.ms_model.specs.Origin.{Origin}
 use Rattle.ms_model.specs.Units.{LastAct, act_on, last_act, act_within, settled_by, settled_group, collected_by, collected_group, loaded_by, is_loaded, disabled_by, worker_at}
+use Rattle.ms_model.specs.Cursors.{cursor_by, cursor_at}
 use Rattle.ms_model.specs.Gains.{gained_by, is_gained, gives, is_given}
 use Rattle.ms_model.specs.Legal.{MayDo, IsLegal}
 use Rattle.ms_model.specs.declared.notes.Noted.{Noted}
@@ -32,6 +33,9 @@ worker_at-push h note = fold_push _ _ h note
 
 pub is_gained-push : (t : ℕ) (h : List Noted) (note : Noted) (u : ℕ) → is_gained t (h ++ note ∷ []) u ≡ gained_by t u (is_gained t h u) note.act
 is_gained-push t h note u = fold_push _ _ h note
+
+pub cursor_at-push : (h : List Noted) (note : Noted) (number : ℕ) → cursor_at (h ++ note ∷ []) number ≡ cursor_by number (cursor_at h number) note.act
+cursor_at-push h note number = fold_push _ _ h note
 
 or-false : (a b : Bool) → (a || (b || false)) ≡ (a || b)
 or-false true b = refl

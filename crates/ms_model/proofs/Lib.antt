@@ -6,3 +6,7 @@ pub mod Totals
 pub mod Steps
 pub mod GateGroups
 pub mod Held
+pub mod RunLooks
+pub mod Reflecting
+pub mod Waiting
+pub mod Changes

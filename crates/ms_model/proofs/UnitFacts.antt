@@ -87,13 +87,13 @@ vacant_apart t opened s (freed g) now e a m = let old : g + 2 ≤ s = ltb-false 
 vacant_apart t opened s taken_back now e a m = a m
 vacant_apart t opened s untouched now e a m = a m
 
-vacant_gain : (t s : ℕ) (last : LastAct) → keeps_busy s last ≡ false → IsGainOf t last → t + 3 ≤ s
+pub vacant_gain : (t s : ℕ) (last : LastAct) → keeps_busy s last ≡ false → IsGainOf t last → t + 3 ≤ s
 vacant_gain t s (granted lane g) e h = absurd (cc)
 vacant_gain t s (freed g) e h = let old : g + 2 ≤ s = ltb-false _ _ e in omega arith
 vacant_gain t s taken_back e h = absurd h
 vacant_gain t s untouched e h = absurd h
 
-vacant_gift : (t s : ℕ) (last : LastAct) → keeps_busy s last ≡ false → IsGiftOf t last → t + 3 ≤ s
+pub vacant_gift : (t s : ℕ) (last : LastAct) → keeps_busy s last ≡ false → IsGiftOf t last → t + 3 ≤ s
 vacant_gift t s (granted lane g) e h = absurd h
 vacant_gift t s (freed g) e h = let old : g + 2 ≤ s = ltb-false _ _ e in omega arith
 vacant_gift t s taken_back e h = absurd h

@@ -1,14 +1,16 @@
 -- What the definitions are to mean: the statements of the laws.
-use Rattle.std.specs.Prelude.{◌≡◌, ℕ, ◌+◌, ◌-◌, ◌≤◌, Bool, true, false, not, ◌&&◌, ◌||◌, max, List, ◌∷◌, ◌++◌}
+use Rattle.std.specs.Prelude.{◌≡◌, ℕ, ◌+◌, ◌-◌, ◌<◌, ◌≤◌, Bool, true, false, not, ◌&&◌, ◌||◌, max, List, ◌∷◌, ◌++◌}
 use Rattle.zms_units.specs.declared.segments.Seg.{Seg}
-use Rattle.zms_units.specs.Segments.{Covers}
+use Rattle.zms_units.specs.Segments.{covers, Covers}
+use Rattle.std.specs.List.{All}
 use Rattle.ms_model.specs.Origin.{Origin}
 use Rattle.ms_model.specs.Units.{held, settled_group}
 use Rattle.ms_model.specs.Spaces.{is_live, is_deferred, is_vacant}
 use Rattle.ms_model.specs.Gains.{is_gained, is_given}
 use Rattle.ms_model.specs.Legal.{IsLegal}
 use Rattle.ms_model.specs.Counts.{live_units, deferred_units, vacant_units}
-use Rattle.ms_model.specs.declared.notes.Act.TheVariants.{Grant, Work}
+use Rattle.ms_model.specs.declared.notes.Act.{Act}
+use Rattle.ms_model.specs.declared.notes.Act.TheVariants.{Grant, Free, Unalloc, Work}
 use Rattle.ms_model.specs.declared.notes.Noted.{Noted}
 use Rattle.ms_model.specs.declared.notes.WorkKind.{WorkKind}
 use Rattle.zms_units.specs.declared.segments.Group.{Group}
@@ -55,3 +57,19 @@ abbrev pub GroupsAddUp : Type 0
 GroupsAddUp =
     (o : Origin) (h : List Noted) (t u : ℕ) → IsLegal o h
     → held o h (t + 1) u ≡ (not (is_given (t + 1) h u) && (is_gained (t + 1) h u || held o h t u))
+
+-- a note doesn't change a unit's last act
+abbrev pub Spares : ℕ → Act → Type 0
+Spares u (Grant _ seg) = covers seg u ≡ false
+Spares u (Free _ seg) = covers seg u ≡ false
+Spares u (Unalloc _ seg) = covers seg u ≡ false
+Spares u _ = Unit {0}
+
+-- a unit that was freed in a group, and not handed out since, is deferred until the second settle after the group's own,
+-- and vacant from then on
+abbrev pub FreesWait : Type 0
+FreesWait =
+    (o : Origin) (before : List Noted) (lane : ℕ) (group : Group) (seg : Seg) (rest : List Noted) (u : ℕ)
+    → Covers seg u → All (λ (note : Noted). Spares u note.act) rest
+    → (settled_group o (before ++ (record { lane = lane; act = Free group seg } ∷ rest)) < group.0 + 2 → is_deferred o (before ++ (record { lane = lane; act = Free group seg } ∷ rest)) u ≡ true)
+    × (group.0 + 2 ≤ settled_group o (before ++ (record { lane = lane; act = Free group seg } ∷ rest)) → is_vacant o (before ++ (record { lane = lane; act = Free group seg } ∷ rest)) u ≡ true)

@@ -1,12 +1,14 @@
 -- Which note may follow which, and the legal history.
 use Rattle.std.specs.Prelude.{◌≡◌, ℕ, ◌+◌, ◌<◌, ◌≤◌, true, false, Some, None, List, ◌∷◌, ◌++◌}
 use Rattle.std.specs.List.{All}
+use Rattle.zms_units.specs.Cursors.{cursor_of}
 use Rattle.zms_units.specs.declared.segments.Seg.{Seg}
 use Rattle.zms_units.specs.Segments.{end_of, Covers}
+use Rattle.zms_units.specs.Runs.{IsFit, NoneInRow}
 use Rattle.ms_model.specs.Origin.{Origin}
 use Rattle.ms_model.specs.Units.{LastAct, granted, last_act, settled_group, collected_group, is_loaded, worker_at}
 use Rattle.ms_model.specs.Spaces.{is_vacant}
-use Rattle.ms_model.specs.Runs.{IsFit, NoneInRow}
+use Rattle.ms_model.specs.Cursors.{cursor_at}
 use Rattle.ms_model.specs.declared.notes.Act.{Act}
 use Rattle.ms_model.specs.declared.notes.Act.TheVariants.{Grant, Free, Unalloc, Miss, Shut, Collect, Settle, Load, Unload, Disable, Work, Enable}
 use Rattle.ms_model.specs.declared.notes.Noted.{Noted}
@@ -26,13 +28,13 @@ pub record TakesRequests (h : List Noted) : Type 0 where
   pub loaded : is_loaded h ≡ true
   pub enabled : worker_at h ≡ None
 
--- a grant takes vacant units alone, and those that the fit names
+-- a grant takes vacant units alone, and those that the fit names at the cursor of its count
 pub record MayGrant (o : Origin) (h : List Noted) (group : ℕ) (seg : Seg) : Type 0 where
   pub takes : TakesRequests h
   pub open_group : IsOpenGroup o h group
   pub within : IsWithin o.units seg
   pub vacant : (u : ℕ) → Covers seg u → is_vacant o h u ≡ true
-  pub fit : IsFit (is_vacant o h) o.units seg.count seg
+  pub fit : IsFit (is_vacant o h) o.units o.ashift (cursor_at h (cursor_of seg.count)) seg.count seg
 
 -- a miss says that no so many vacant units stand in a row
 pub record MayMiss (o : Origin) (h : List Noted) (count : ℕ) : Type 0 where

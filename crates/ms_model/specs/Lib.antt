@@ -1,7 +1,7 @@
 pub mod Origin
 pub mod Units
 pub mod Spaces
-pub mod Runs
+pub mod Cursors
 pub mod Gains
 pub mod Legal
 pub mod Counts
@@ -10,4 +10,5 @@ pub mod Parts
 pub mod Gates
 pub mod Events
 pub mod Laws
+pub mod Checking
 pub mod Places

@@ -1,6 +1,6 @@
 //! Laws of the definitions: each function does nothing, and its contract is the law.
 
-ghost use Rattle.ms_model.specs.Laws.{GrantsOverlapNothing, WorkOverlapsNothing, StatesAreApart, TotalsAddUp, BeginningsAreLegal, GroupsAddUp};
+ghost use Rattle.ms_model.specs.Laws.{GrantsOverlapNothing, WorkOverlapsNothing, StatesAreApart, TotalsAddUp, BeginningsAreLegal, GroupsAddUp, FreesWait};
 ghost use Rattle.ms_model.specs.Places.{LaneNotesAreItsSteps, GateNotesAreItsSteps, PlacesNeverFall, GatePlacesNeverFall, PlacesAreWithin, GatePlacesAreWithin, OpenGroupCountsClosings, OpenGroupNeverFalls, OpenGroupIsWithin};
 
 /// In a legal history no unit of a grant is live, deferred, or held by a group that may still be opened.
@@ -31,6 +31,11 @@ pub fn beginnings_are_legal()
 /// What a group holds is what the one before it held, with what it gained and without what it gave back.
 pub fn groups_add_up()
     ensures { GroupsAddUp }
+{}
+
+/// What was freed in a group waits until the second settle after the group's own, and is vacant from then on.
+pub fn frees_wait()
+    ensures { FreesWait }
 {}
 
 /// A lane's notes in a journal are those of its steps, in order.

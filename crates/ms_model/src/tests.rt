@@ -10,6 +10,7 @@ fn laws_can_be_called() {
     laws::totals_add_up();
     laws::beginnings_are_legal();
     laws::groups_add_up();
+    laws::frees_wait();
     laws::lane_notes_are_its_steps();
     laws::places_never_fall();
     laws::places_are_within();

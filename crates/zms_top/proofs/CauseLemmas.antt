@@ -88,7 +88,7 @@ module _ (words : List (List ℕ)) (left : Option (List ℕ)) (sl sh kl kh : ℕ
       → Asks words Run → RunEnds left before now sl sh kl kh start end low high status journals lists → To status
   run_cause before now end status journals lists asks (RunEnds.unread why _ _ _ _) = read_cause status asks why
   run_cause before now end status journals lists asks (RunEnds.unopened commands file why _ _ _ _) = open_cause status asks (commands, file) why
-  run_cause before now end status journals lists asks (RunEnds.cut_off o journal j l origin shipped is _ _ _) = subst To (sym is) Cause.memory
+  run_cause before now end status journals lists asks (RunEnds.cut_off _ _ o journal j l origin shipped _ is _ _ _) = subst To (sym is) Cause.memory
   run_cause before now end status journals lists asks (RunEnds.ran commands file o journal j l origin shipped did _ _) =
       subst To (sym did.status_is)
       (ran_cause (any_device l.replies) before now _ did.printed asks (commands, file) o.opened (λ tells. (o.units, origin.record_has tells)) (rose_within low high l.replies did.intervals) did.prints)

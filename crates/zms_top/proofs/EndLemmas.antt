@@ -6,7 +6,8 @@ use Rattle.zms_units.specs.declared.faults.First.{First}
 use Rattle.ms_model.specs.Origin.{Origin}
 use Rattle.ms_model.specs.Units.{settled_group}
 use Rattle.ms_model.specs.Legal.{IsLegal}
-use Rattle.ms_model.specs.Counts.{units_in, live_units, deferred_units, vacant_units}
+use Rattle.zms_units.specs.Runs.{units_in}
+use Rattle.ms_model.specs.Counts.{live_units, deferred_units, vacant_units}
 use Rattle.ms_model.specs.Gates.{synced_group, IsGateLegal}
 use Rattle.ms_model.specs.Parts.{right_of, gate_right}
 use Rattle.ms_model.specs.Steps.{Follows}
@@ -150,8 +151,8 @@ pub run_ends : (left before now : Option (List ℕ)) (source_low source_high sin
     → (IsSome left → IsFile (text_of left) commands) → IsOrigin start o → (Tells start → IsUnwritten start mid) → low ≤ between
     → LanesEnd o commands before now sink_low sink_high mid end between high status journals lists
     → RunEnds left before now source_low source_high sink_low sink_high start end low high status journals lists
-run_ends left before now source_low source_high sink_low sink_high start mid end low between high o commands status journals lists file origin quiet le (LanesEnd.cut_off journal j l shipped is out js ls) =
-    RunEnds.cut_off o journal j l origin shipped is out js ls
+run_ends left before now source_low source_high sink_low sink_high start mid end low between high o commands status journals lists file origin quiet le (LanesEnd.cut_off journal j l shipped none is out js ls) =
+    RunEnds.cut_off commands file o journal j l origin shipped none is out js ls
 run_ends left before now source_low source_high sink_low sink_high start mid end low between high o commands status journals lists file origin quiet le (LanesEnd.ran journal j l shipped did js ls) =
     RunEnds.ran commands file o journal j l origin shipped
     (record {

@@ -4,7 +4,7 @@ use Rattle.std.specs.List.{All}
 use Rattle.zms_units.specs.Segments.{covered}
 use Rattle.zms_units.specs.declared.segments.Seg.{Seg}
 use Rattle.ms_model.specs.Origin.{Origin}
-use Rattle.ms_model.specs.Runs.{AreMaximalRuns}
+use Rattle.zms_units.specs.Runs.{AreMaximalRuns}
 use Rattle.ms_model.specs.declared.notes.Act.TheVariants.{Unload}
 use Rattle.ms_model.specs.declared.notes.Noted.{Noted}
 use Rattle.ms_model.specs.declared.notes.GateNote.{GateNote}

@@ -6,7 +6,8 @@ use Rattle.zms_units.specs.declared.places.Class.TheVariants.{Normal}
 use Rattle.ms_model.specs.Origin.{Origin}
 use Rattle.ms_model.specs.Units.{settled_group}
 use Rattle.ms_model.specs.Legal.{IsLegal}
-use Rattle.ms_model.specs.Counts.{units_in, live_units, deferred_units, vacant_units}
+use Rattle.zms_units.specs.Runs.{units_in}
+use Rattle.ms_model.specs.Counts.{live_units, deferred_units, vacant_units}
 use Rattle.ms_model.specs.Gates.{synced_group, IsGateLegal}
 use Rattle.ms_model.specs.declared.journals.MsJournal.{MsJournal}
 use Rattle.ms_model.specs.declared.journals.Journals.{Journals}
@@ -132,8 +133,8 @@ pub data RunEnds (left taken_before taken_now : Option (List ℕ)) (source_low s
       → taken_now ≡ taken_before → journals ≡ None → lists ≡ None
       → RunEnds left taken_before taken_now source_low source_high sink_low sink_high start now low high status journals lists
   -- lanes began, and memory ran out
-  cut_off : (o : Origin) (journal : MsJournal) (j : Journals) (l : RunLists) → IsOrigin start o → AreShipped o j l journal → status ≡ Memory → taken_now ≡ taken_before
-      → journals ≡ Some j → lists ≡ Some l
+  cut_off : (commands : List Command) → (IsSome left → IsFile (text_of left) commands) → (o : Origin) (journal : MsJournal) (j : Journals) (l : RunLists) → IsOrigin start o → AreShipped o j l journal
+      → l.replies ≡ [] → status ≡ Memory → taken_now ≡ taken_before → journals ≡ Some j → lists ≡ Some l
       → RunEnds left taken_before taken_now source_low source_high sink_low sink_high start now low high status journals lists
   -- all lanes ran
   ran : (commands : List Command) → (IsSome left → IsFile (text_of left) commands) → (o : Origin) (journal : MsJournal) (j : Journals) (l : RunLists) → IsOrigin start o → AreShipped o j l journal

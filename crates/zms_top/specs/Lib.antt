@@ -16,3 +16,4 @@ pub mod Ends
 pub mod Opening
 pub mod Shipping
 pub mod Causes
+pub mod Statuses

@@ -4,7 +4,8 @@ use Rattle.zms_units.specs.Segments.{covered}
 use Rattle.zms_units.specs.declared.segments.Group.{Group}
 use Rattle.zms_units.specs.declared.places.Class.TheVariants.{Normal}
 use Rattle.ms_model.specs.Legal.{IsLegal}
-use Rattle.ms_model.specs.Counts.{units_in, live_units, deferred_units, vacant_units}
+use Rattle.zms_units.specs.Runs.{units_in}
+use Rattle.ms_model.specs.Counts.{live_units, deferred_units, vacant_units}
 use Rattle.ms_model.specs.Gates.{IsGateLegal}
 use Rattle.ms_model.specs.declared.journals.MsJournal.{MsJournal}
 use Rattle.ms_model.specs.declared.journals.Journals.{Journals}
@@ -72,7 +73,8 @@ pub record HasHandedOver (p : Pool) (replies : List Reply) (journals : Option Jo
 -- lanes that began either met want of memory or ran to their end
 pub data LanesEnd (o : Origin) (commands : List Command) (taken_before taken_now : Option (List ℕ)) (sink_low sink_high : ℕ) (start now : DiskState) (low high : ℕ)
     (status : Status) (journals : Option Journals) (lists : Option RunLists) : Type 0 where
-  cut_off : (journal : MsJournal) (j : Journals) (l : RunLists) → AreShipped o j l journal → status ≡ Memory → taken_now ≡ taken_before → journals ≡ Some j → lists ≡ Some l
+  cut_off : (journal : MsJournal) (j : Journals) (l : RunLists) → AreShipped o j l journal → l.replies ≡ [] → status ≡ Memory → taken_now ≡ taken_before
+      → journals ≡ Some j → lists ≡ Some l
       → LanesEnd o commands taken_before taken_now sink_low sink_high start now low high status journals lists
   ran : (journal : MsJournal) (j : Journals) (l : RunLists) → AreShipped o j l journal
       → LanesDid commands taken_before taken_now sink_low sink_high start now low high o journal l status → journals ≡ Some j → lists ≡ Some l

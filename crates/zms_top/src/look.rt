@@ -8,11 +8,12 @@ ghost use Rattle.zms_top.specs.Pooling.{IsLook};
 ghost use Rattle.zms_top.specs.Sound.{Loads};
 
 use ms_core::Metaslab;
+use seg_trees::PlainTrees;
 use std::alloc::AllocError;
 use zms_units::{Group, MAX_UNITS, Seg};
 
 /// Brings free space into memory where it is not there, from the runs that the settled groups hold.
-fn load_first(metaslab: &mut Metaslab, base: &[Seg], lane: u8) -> Result<(), AllocError>
+fn load_first(metaslab: &mut Metaslab<PlainTrees>, base: &[Seg], lane: u8) -> Result<(), AllocError>
     requires lane { (1 ≤ lane) × (lane ≤ 16) }
     requires segs { AreSegs metaslab.old.units base.now }
     requires held { is_loaded metaslab.old.notes ≡ false → (u : ℕ) → u < metaslab.old.units → covered base.now u ≡ held (origin_of metaslab.old) metaslab.old.notes (settled_of metaslab.old) u }
@@ -29,7 +30,7 @@ fn load_first(metaslab: &mut Metaslab, base: &[Seg], lane: u8) -> Result<(), All
 /// Looks for `count` units in a row, bringing free space into memory first where it is not there. After an error the
 /// metaslab may be loaded.
 pub(crate) fn look(
-    metaslab: &mut Metaslab,
+    metaslab: &mut Metaslab<PlainTrees>,
     base: &[Seg],
     lane: u8,
     group: Group,

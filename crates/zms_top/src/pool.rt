@@ -3,6 +3,7 @@
 use crate::gate::Gate;
 use crate::record::FirstRecord;
 use ms_core::{Metaslab, RunBuf};
+use seg_trees::PlainTrees;
 use zms_units::{First, MsId, Seg};
 
 /// The shift of the one vdev's units: 4096 bytes.
@@ -14,7 +15,7 @@ pub(crate) const FIRST_METASLAB: MsId = MsId { vdev: 0, index: 0 };
 /// What a run keeps of its pool between two commands.
 #[derive(Drop)]
 pub(crate) struct Pool {
-    pub(crate) metaslab: Metaslab,
+    pub(crate) metaslab: Metaslab<PlainTrees>,
     pub(crate) gate: Gate,
     pub(crate) record: FirstRecord,
     // What the opened group holds, from which the metaslab is loaded.

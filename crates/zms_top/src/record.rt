@@ -10,7 +10,7 @@ ghost use Rattle.zms_dev.specs.Causes.{HasCause, Rose};
 ghost use Rattle.zms_dev.specs.Disk.{Tells, bytes_of};
 ghost use Rattle.zms_dev.specs.Runs.{Spares, Untouched};
 ghost use Rattle.zms_units.specs.Segments.{end_of, covers, covered, AreSegs};
-ghost use Rattle.ms_model.specs.Runs.{AreMaximalRuns};
+ghost use Rattle.zms_units.specs.Runs.{AreMaximalRuns};
 ghost use Rattle.zms_top.specs.Record.{is_set, record_len, bit_bytes, IsRecord, HasRecord, HasNoRecord, IsStored, IsReadFrom, IsGroup};
 ghost use Rattle.zms_top.specs.declared.record.StoreFault.TheVariants.{Memory, Failed as StoreFailed};
 

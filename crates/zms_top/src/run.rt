@@ -10,6 +10,9 @@ ghost use Rattle.zms_top.specs.Ends.{RunEnds};
 ghost use Rattle.zms_top.specs.Opening.{IsOpened, IsAssembled, IsFresh};
 ghost use Rattle.zms_top.specs.Shipping.{HasHandedOver, LanesEnd};
 
+#[cfg(test)]
+mod stops;
+
 use crate::gate::Gate;
 use crate::lane::run_lane;
 use crate::pool::{ASHIFT, FIRST_METASLAB, Pool};

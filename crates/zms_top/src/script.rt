@@ -1,10 +1,11 @@
 //! The command file: lines of text in, commands out.
 
-ghost use Rattle.std.specs.Prelude.{◌≡◌, ◌⊎◌, ℕ, List, Ok, Err, IsOk, IfOk, IfSome, IfNone, IsErrOf};
+ghost use Rattle.std.specs.Prelude.{◌≡◌, ◌⊎◌, ℕ, List, Some, Ok, Err, IsOk, IfOk, IfSome, IfNone, IsErrOf};
 ghost use Rattle.zms_top.specs.declared.script.Command.{Command};
 ghost use Rattle.zms_top.specs.declared.script.TextFault.TheVariants.{Memory};
 ghost use Rattle.zms_top.specs.Script.{IsFile, IsFirstBad};
 ghost use Rattle.zms_top.specs.Reading.{IsNext, HasNoNext};
+ghost use Rattle.zms_top.specs.Statuses.{fault_text};
 
 pub mod fields;
 mod lines;
@@ -63,6 +64,8 @@ pub enum TextFault {
 }
 
 impl fmt::Display for TextFault {
+    ghost output = { λ fault. Some (fault_text fault) };
+
     fn fmt<W: fmt::Write>(&self, f: &mut fmt::Formatter<W>) -> fmt::Result {
         match self {
             TextFault::Bad { line } => write!(f, "line {line} is not a command within the limits"),

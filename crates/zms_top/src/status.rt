@@ -1,5 +1,8 @@
 //! How a call of the program ends, and what it hands back.
 
+ghost use Rattle.std.specs.Prelude.{◌≡◌, Some};
+ghost use Rattle.zms_top.specs.Statuses.{cause_text, status_text, exit_status};
+
 use crate::Reply;
 use ms_model::{DeviceNote, GateNote, Journals};
 use std::fmt;
@@ -42,7 +45,9 @@ pub enum Status {
 
 impl Status {
     /// The exit status of the program: 0 for `Done`, else one for each kind.
-    pub fn exit_code(&self) -> u8 {
+    pub fn exit_code(&self) -> u8
+        ensures { result ≡ exit_status self.now }
+    {
         match self {
             Status::Done => 0,
             Status::Usage => 1,
@@ -57,7 +62,20 @@ impl Status {
     }
 }
 
+impl fmt::Display for PoolCause {
+    ghost output = { λ cause. Some (cause_text cause) };
+
+    fn fmt<W: fmt::Write>(&self, f: &mut fmt::Formatter<W>) -> fmt::Result {
+        match self {
+            PoolCause::Open(OpenCause::NoSlot) => write!(f, "no slot"),
+            PoolCause::AlreadyPool { newest } => write!(f, "already a pool, newest {newest}"),
+        }
+    }
+}
+
 impl fmt::Display for Status {
+    ghost output = { λ status. Some (status_text status) };
+
     fn fmt<W: fmt::Write>(&self, f: &mut fmt::Formatter<W>) -> fmt::Result {
         match self {
             Status::Done => write!(f, "zms: done"),
@@ -66,12 +84,7 @@ impl fmt::Display for Status {
             Status::ReadFault => write!(f, "zms: read fault"),
             Status::WriteFault => write!(f, "zms: write fault"),
             Status::DeviceFault => write!(f, "zms: device fault"),
-            Status::NotAPool { cause } => match cause {
-                PoolCause::Open(OpenCause::NoSlot) => write!(f, "zms: not a pool: no slot"),
-                PoolCause::AlreadyPool { newest } => {
-                    write!(f, "zms: not a pool: already a pool, newest {newest}")
-                }
-            },
+            Status::NotAPool { cause } => write!(f, "zms: not a pool: {cause}"),
             Status::Memory => write!(f, "zms: out of memory"),
             Status::Found { n } => write!(f, "zms: found {n}"),
         }

@@ -4,7 +4,7 @@ ghost use Rattle.std.specs.Prelude.{◌≡◌, ℕ, ◌+◌, ◌^◌, ◌<◌, �
 ghost use Rattle.zms_units.specs.Segments.{covered, AreSegs};
 ghost use Rattle.ms_model.specs.Gains.{is_gained, is_given};
 ghost use Rattle.ms_model.specs.Gates.{open_group, synced_group};
-ghost use Rattle.ms_model.specs.Runs.{AreMaximalRuns};
+ghost use Rattle.zms_units.specs.Runs.{AreMaximalRuns};
 ghost use Rattle.ms_model.specs.declared.notes.Act.TheVariants.{Collect};
 ghost use Rattle.ms_core.specs.State.{origin_of, settled_of, collected_of, noted, StaysButNotes};
 ghost use Rattle.zms_dev.specs.Disk.{Tells};
@@ -18,6 +18,7 @@ use crate::Answer;
 use crate::pool::Pool;
 use crate::record::FirstRecord;
 use ms_core::{Metaslab, MsFault, RunBuf};
+use seg_trees::PlainTrees;
 use std::alloc::AllocError;
 use zms_dev::Disk;
 use zms_units::{First, Group};
@@ -25,7 +26,7 @@ use zms_units::{First, Group};
 /// Collects the group into the buffer, which takes more memory where its runs need it. After an error nothing is
 /// collected.
 pub(crate) fn gather(
-    metaslab: &mut Metaslab,
+    metaslab: &mut Metaslab<PlainTrees>,
     buf: &mut RunBuf,
     lane: u8,
     group: Group,

@@ -17,12 +17,26 @@ const EMPTY: &[u8] = b"ZMSPOOL0\x04\0\0\0\0\0\0\0\0\x01\0\0\0\0\0\0\
 const WITH_UNIT_0: &[u8] = b"ZMSPOOL0\x05\0\0\0\0\0\0\0\0\x01\0\0\0\0\0\0\
     \x01\0\0\0\0\0\0\0\0\0\0\0\0\0\0\0\0\0\0\0\0\0\0\0\0\0\0\0\0\0\0\0";
 
+const FIRST_TEXT: &str = "1 alloc a 4096 normal 1\n1 sync\n";
+
+const FIRST_PRINTED: &str = "\
+1 alloc a granted 5 normal 0:0:4096
+1 sync done 5
+metaslab 0 0 live 1 deferred 0 vacant 255
+class normal live 4096 deferred 0 vacant 1044480
+pool live 4096 deferred 0 vacant 1044480
+group 5
+";
+
 const TOTALS_OF_EMPTY: &str = "\
 metaslab 0 0 live 0 deferred 0 vacant 256
 class normal live 0 deferred 0 vacant 1048576
 pool live 0 deferred 0 vacant 1048576
 group 4
 ";
+
+/// More writes than any text here takes.
+const MOST_WRITES: usize = 200;
 
 /// The number of a call that is never made.
 const NEVER: usize = usize::MAX;
@@ -123,18 +137,9 @@ fn a_pool_is_created_and_run(rt: HostRuntime) -> Result<(), Fail> {
     assert_eq!(rt; created.status, Status::Done);
     assert_eq!(rt; created.printed.as_slice(), b"created group 4\n".as_slice());
     assert_eq!(rt; created.device.as_slice(), EMPTY);
-    let text = "1 alloc a 4096 normal 1\n1 sync\n";
-    let ran = call(&rt, alloc, RUN, text, &created.device, NOTHING_FAILS)?;
+    let ran = call(&rt, alloc, RUN, FIRST_TEXT, &created.device, NOTHING_FAILS)?;
     assert_eq!(rt; ran.status, Status::Done);
-    let want = "\
-1 alloc a granted 5 normal 0:0:4096
-1 sync done 5
-metaslab 0 0 live 1 deferred 0 vacant 255
-class normal live 4096 deferred 0 vacant 1044480
-pool live 4096 deferred 0 vacant 1044480
-group 5
-";
-    assert_eq!(rt; ran.printed.as_slice(), want.as_bytes());
+    assert_eq!(rt; ran.printed.as_slice(), FIRST_PRINTED.as_bytes());
     assert_eq!(rt; ran.device.as_slice(), WITH_UNIT_0);
     Ok(())
 }
@@ -193,18 +198,21 @@ fn ends_that_leave_the_device_as_it_was(rt: HostRuntime) -> Result<(), Fail> {
 
 #[test]
 fn a_failing_call_of_a_creation_is_told(rt: HostRuntime) -> Result<(), Fail> {
-    let none = NOTHING_FAILS;
-    let rows = [
-        (Failing { sink: 0, ..none }, Status::WriteFault),
-        // The head is read, and the record is written and flushed.
-        (Failing { disk: 0, ..none }, Status::DeviceFault),
-        (Failing { disk: 1, ..none }, Status::DeviceFault),
-        (Failing { disk: 2, ..none }, Status::DeviceFault),
-    ];
-    for (failing, status) in rows {
+    // The head is read, and the record is written and flushed.
+    for disk in 0..3 {
+        let failing = Failing {
+            disk,
+            ..NOTHING_FAILS
+        };
         let left = call(&rt, rt.alloc(), CREATE, "", b"", failing)?;
-        assert_eq!(rt; left.status, status, "for {failing:?}");
+        assert_eq!(rt; left.status, Status::DeviceFault, "for {failing:?}");
     }
+    let failing = Failing {
+        disk: 3,
+        ..NOTHING_FAILS
+    };
+    let left = call(&rt, rt.alloc(), CREATE, "", b"", failing)?;
+    assert_eq!(rt; left.status, Status::Done);
     Ok(())
 }
 
@@ -214,18 +222,54 @@ fn a_failing_call_of_a_run_is_told(rt: HostRuntime) -> Result<(), Fail> {
     let rows = [
         (Failing { source: 0, ..none }, Status::ReadFault),
         (Failing { source: 1, ..none }, Status::ReadFault),
-        (Failing { sink: 0, ..none }, Status::WriteFault),
-        (Failing { sink: 20, ..none }, Status::WriteFault),
+        (Failing { source: 2, ..none }, Status::Done),
         // The head and the bits are read, and the record is written and flushed.
         (Failing { disk: 0, ..none }, Status::DeviceFault),
         (Failing { disk: 1, ..none }, Status::DeviceFault),
         (Failing { disk: 2, ..none }, Status::DeviceFault),
         (Failing { disk: 3, ..none }, Status::DeviceFault),
+        (Failing { disk: 4, ..none }, Status::Done),
     ];
     for (failing, status) in rows {
         let left = call(&rt, rt.alloc(), RUN, "1 sync\n", EMPTY, failing)?;
         assert_eq!(rt; left.status, status, "for {failing:?}");
     }
+    Ok(())
+}
+
+/// Makes each write to the sink fail in turn, as many as there are: each is told, and what was printed is a beginning of
+/// the text.
+fn each_write_fails<R: Abort + Threads + Wait + Sync>(
+    rt: &R,
+    alloc: Global,
+    words: &str,
+    text: &str,
+    device: &[u8],
+    printed: &str,
+) -> Result<(), Fail> {
+    let mut failing = NOTHING_FAILS;
+    for sink in 0..MOST_WRITES {
+        failing.sink = sink;
+        let left = call(rt, alloc, words, text, device, failing)?;
+        if left.status == Status::Done {
+            assert_eq!(rt; left.printed.as_slice(), printed.as_bytes());
+            return Ok(());
+        }
+        assert_eq!(rt; left.status, Status::WriteFault, "for write {sink}");
+        assert!(rt; left.printed.len() < printed.len(), "for write {sink}");
+        assert!(rt;
+            printed.as_bytes().starts_with(&left.printed),
+            "for write {sink}"
+        );
+    }
+    Err(Fail::new("more writes than this test makes fail"))
+}
+
+#[test]
+fn each_write_that_fails_is_told(rt: HostRuntime) -> Result<(), Fail> {
+    let alloc = rt.alloc();
+    each_write_fails(&rt, alloc, CREATE, "", b"", "created group 4\n")?;
+    each_write_fails(&rt, alloc, RUN, FIRST_TEXT, EMPTY, FIRST_PRINTED)?;
     Ok(())
 }
 

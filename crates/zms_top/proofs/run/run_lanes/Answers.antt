@@ -1,4 +1,4 @@
-use Rattle.std.proofs.Common.{refl}
+use Rattle.std.proofs.Common.{refl, ◌∙◌}
 use Rattle.zms_top.specs.Answers.{paired}
 use Rattle.zms_top.specs.Shipping.{LanesEnd, HandsOver, Reports}
 use Rattle.zms_top.proofs.EndLemmas.{shipped_of, lanes_did}
@@ -10,7 +10,7 @@ returns-in-Err g c =
     let all = c.run_lane.ensures in
     LanesEnd.cut_off handed.handed.journal handed.some_journals handed.some_lists
     (shipped_of c.args.opened c.run_lane.new.pool _ handed.some_journals handed.some_lists c.requires.opened all.stays all.gate handed.handed)
-    c.handed_over.ensures.status refl handed.journals_are handed.lists_are
+    (handed.handed.replies_are ∙ c.new.ensures) c.handed_over.ensures.status refl handed.journals_are handed.lists_are
 
 pub returns-in-Ok : goal.returns-in-Ok
 returns-in-Ok g c =

@@ -1,13 +1,18 @@
 use Rattle.std.proofs.Common.{arith}
-use Rattle.ms_core.proofs.Keeping.{kept_room, kept_spare}
+use Rattle.ms_core.specs.Kept.{book_in}
+use Rattle.ms_core.proofs.Keeping.{kept_notes, kept_stay}
+use Rattle.ms_core.proofs.Narrowing.{all_nodes_most}
 use Rattle.ms_core.proofs.metaslab.Metaslab.ready.Goals as goal
 
-pub invariant_of-self : goal.invariant_of-self
-invariant_of-self c =
-    kept_room c.self.inside c.reserve.new.self c.self.invariant c.reserve.ensures.items (omega (arith, c.self.invariant.room, c.reserve.ensures.len, c.reserve.ensures.capacity))
+pub reserve-requires-2 : goal.reserve-requires-2
+reserve-requires-2 g c = record { most = omega (arith, all_nodes_most (g.R.SegTrees.set c.self.inside.trees)) }
 
 pub invariant_of-self-2 : goal.invariant_of-self-2
-invariant_of-self-2 c =
-    kept_spare (record c.self.inside { notes = c.reserve.new.self }) c.reserve-2.new.self
-    (kept_room c.self.inside c.reserve.new.self c.self.invariant c.reserve.ensures.items (omega (arith, c.self.invariant.room, c.reserve.ensures.len, c.reserve.ensures.capacity)))
-    c.reserve-2.ensures.items
+invariant_of-self-2 g c =
+    let m = c.self.inside in
+    record {
+      kept =
+          kept_stay (g.R.SegTrees.set m.trees) (g.R.SegTrees.set c.reserve-2.new.self) _
+          (kept_notes (g.R.SegTrees.set m.trees) (book_in m) c.reserve.new.self.items c.reserve.ensures.items c.self.invariant.kept) c.reserve-2.ensures.stay;
+      room = omega (arith, c.self.invariant.room, c.reserve.ensures.len, c.reserve.ensures.capacity);
+    }

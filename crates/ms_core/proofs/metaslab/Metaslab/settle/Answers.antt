@@ -1,11 +1,42 @@
-use Rattle.std.proofs.Common.{◌≡◌, ◌+◌, ◌≤◌, sym, subst, arith}
+use Rattle.std.proofs.Common.{◌≡◌, ◌+◌, ◌≤◌, ◌∙◌, ap, sym, subst, arith}
+use Rattle.seg_trees.specs.Sets.{size_of}
 use Rattle.ms_core.specs.State.{MsState, settled_of, collected_of}
+use Rattle.ms_core.specs.Mirrors.{deferred_of}
+use Rattle.ms_core.specs.Kept.{book_in, origin_in}
+use Rattle.ms_core.proofs.Mirroring.{settle_apart}
+use Rattle.ms_core.proofs.Counted.{deferred_settle, size_units}
 use Rattle.ms_core.proofs.Keeping.{kept_settle}
 use Rattle.ms_core.proofs.metaslab.Metaslab.settle.Goals as goal
 
+pub overflow_sub-self : goal.overflow_sub-self
+overflow_sub-self g c =
+    let m = c.self.inside in
+    let k = c.self.invariant.kept in
+    let o = origin_in (book_in m) in
+    let set = g.R.SegTrees.set m.trees in
+    let next = subst (λ (s : MsState). c.args.group.0 ≡ settled_of s + 1) (sym c.self.view_is) c.requires.group in
+    let gone = c.units.ensures ∙ (ap (λ t. size_of (set t)) c.deferred_tree.ensures ∙ size_units o m.notes.items set k.mirrors k.most (deferred_of c.args.group.0)) in
+    omega (arith, gone, k.deferred, deferred_settle o m.notes.items k.legal set k.mirrors c.args.lane c.args.group next)
+
+pub settle_trees-requires : goal.settle_trees-requires
+settle_trees-requires g c =
+    let m = c.self.inside in
+    let k = c.self.invariant.kept in
+    let next = subst (λ (s : MsState). c.args.group.0 ≡ settled_of s + 1) (sym c.self.view_is) c.requires.group in
+    settle_apart (origin_in (book_in m)) m.notes.items (g.R.SegTrees.set m.trees) k.legal k.mirrors c.args.group.0 next
+
 pub invariant_of-self : goal.invariant_of-self
-invariant_of-self c =
+invariant_of-self g c =
+    let m = c.self.inside in
+    let k = c.self.invariant.kept in
+    let o = origin_in (book_in m) in
+    let set = g.R.SegTrees.set m.trees in
     let next = subst (λ (s : MsState). c.args.group.0 ≡ settled_of s + 1) (sym c.self.view_is) c.requires.group in
     let within = subst (λ (s : MsState). c.args.group.0 ≤ collected_of s) (sym c.self.view_is) c.requires.collected in
-    kept_settle c.self.inside c.self.invariant c.push_note.new.notes c.args.lane c.args.group c.push_note.ensures.items
-    (omega (arith, c.self.invariant.settled)) (omega (arith, c.self.invariant.collected)) c.push_note.ensures.len c.push_note.ensures.capacity
+    let gone = c.units.ensures ∙ (ap (λ t. size_of (set t)) c.deferred_tree.ensures ∙ size_units o m.notes.items set k.mirrors k.most (deferred_of c.args.group.0)) in
+    record {
+      kept =
+          kept_settle set (g.R.SegTrees.set c.settle_trees.new.trees) (book_in m) k c.push_note.new.notes.items c.args.lane c.args.group c.units.result c.push_note.ensures.items
+          (omega (arith, k.settled)) (omega (arith, k.collected)) c.settle_trees.ensures.moves gone;
+      room = omega (arith, c.self.invariant.room, c.push_note.ensures.len, c.push_note.ensures.capacity);
+    }

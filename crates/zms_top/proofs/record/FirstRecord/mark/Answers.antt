@@ -1,6 +1,6 @@
 use Rattle.std.proofs.Common.{◌∙◌, arith}
 use Rattle.zms_units.specs.declared.segments.Seg.{Seg}
-use Rattle.ms_core.proofs.RisingSegs.{rising_at}
+use Rattle.zms_units.proofs.RisingSegs.{rising_at}
 use Rattle.zms_top.specs.Record.{is_set}
 use Rattle.zms_top.proofs.RecordBits.{put_more}
 use Rattle.zms_top.proofs.record.FirstRecord.mark.Goals as goal

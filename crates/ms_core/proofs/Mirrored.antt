@@ -1,0 +1,384 @@
+-- The trees of a metaslab say what its journal says, after each act.
+use Rattle.std.proofs.Common.{◌≡◌, ℕ, ◌+◌, ◌-◌, ◌≤◌, ◌<◌, Bool, true, false, cond, Some, List, [], ◌∷◌, ◌++◌, refl, sym, ◌∙◌, ap, subst, arith, ◌⊎◌, inl, inr}
+use Rattle.std.specs.Prelude.{◌||◌, ◌&&◌, not, ◌==◌, ◌%◌}
+use Rattle.std.proofs.lemmas.Bool.{lt-ltb}
+use Rattle.zms_units.specs.declared.segments.Seg.{Seg}
+use Rattle.zms_units.specs.declared.segments.Group.{Group}
+use Rattle.zms_units.specs.Segments.{covers}
+use Rattle.zms_units.proofs.UnitTests.{le_or, true_or_false, same_not, covers_true, covers_high, or_false, or_right}
+use Rattle.seg_trees.specs.Sets.{Sets, AreDisjoint, AllStay, OthersStay, OthersStayBut}
+use Rattle.ms_model.specs.Origin.{Origin}
+use Rattle.ms_model.specs.Units.{LastAct, granted, freed, taken_back, act_on, last_act, settled_by, settled_group, collected_by, collected_group, loaded_by, is_loaded}
+use Rattle.ms_model.specs.Spaces.{keeps_busy, is_vacant}
+use Rattle.ms_model.specs.Gains.{gained_by, is_gained, gives, is_given}
+use Rattle.ms_model.specs.Legal.{MayGrant, MayFree, MayTakeBack, IsLegal}
+use Rattle.ms_model.specs.declared.notes.Act.{Act}
+use Rattle.ms_model.specs.declared.notes.Act.TheVariants.{Grant, Free, Unalloc, Miss, Shut, Collect, Settle, Load}
+use Rattle.ms_model.specs.declared.notes.Noted.{Noted}
+use Rattle.ms_model.proofs.Histories.{last_act-push, settled_group-push, collected_group-push, is_loaded-push, is_gained-push, is_given-push}
+use Rattle.ms_model.proofs.UnitFacts.{and-false}
+use Rattle.ms_model.proofs.Overlaps.{settled_le_collected}
+use Rattle.ms_model.proofs.Changes.{ChangesIn, gained_quiet, gives_quiet, own_group, gained_far, given_far, granted_by_live, live_busy, vacant_next}
+use Rattle.ms_core.specs.Mirrors.{Mirrors, Settles, allocating_of, freeing_of, deferred_of}
+
+-- a journal with one more act
+abbrev pub after_act : List Noted → ℕ → Act → List Noted
+after_act h lane act = h ++ record { lane = lane; act = act } ∷ []
+
+-- before the first note all trees are empty
+pub mirrors_first : (o : Origin) (sets : Sets) → ((tree u : ℕ) → sets tree u ≡ false) → Mirrors o [] sets
+mirrors_first o sets empty =
+    record {
+      within = λ tree u _. empty tree u;
+      vacant = λ loaded u _. cc;
+      unloaded = λ _ u. empty 0 u;
+      gained = λ t u _ _. empty (allocating_of t) u;
+      given = λ t u _ _. empty (freeing_of t) u;
+      deferred = λ t u _ _. empty (deferred_of t) u;
+    }
+
+-- trees that stay
+pub mirrors_stay : (o : Origin) (h : List Noted) (sets new : Sets) → AllStay sets new → Mirrors o h sets → Mirrors o h new
+mirrors_stay o h sets new stay m =
+    record {
+      within = λ tree u above. stay tree u ∙ m.within tree u above;
+      vacant = λ loaded u inside. stay 0 u ∙ m.vacant loaded u inside;
+      unloaded = λ idle u. stay 0 u ∙ m.unloaded idle u;
+      gained = λ t u low high. stay (allocating_of t) u ∙ m.gained t u low high;
+      given = λ t u low high. stay (freeing_of t) u ∙ m.given t u low high;
+      deferred = λ t u low high. stay (deferred_of t) u ∙ m.deferred t u low high;
+    }
+
+-- what the trees say after an act, as each part of a journal moves by it
+record After (o : Origin) (h : List Noted) (lane : ℕ) (act : Act) (new : Sets) : Type 0 where
+  within : (tree u : ℕ) → o.units ≤ u → new tree u ≡ false
+  vacant : loaded_by (is_loaded h) act ≡ true → (u : ℕ) → u < o.units → new 0 u ≡ not (keeps_busy (settled_by (settled_group o h) act) (act_on u (last_act o h u) lane act))
+  unloaded : loaded_by (is_loaded h) act ≡ false → (u : ℕ) → new 0 u ≡ false
+  gained : (t u : ℕ) → collected_by (collected_group o h) act < t → t ≤ collected_by (collected_group o h) act + 4 → new (allocating_of t) u ≡ gained_by t u (is_gained t h u) act
+  given : (t u : ℕ) → settled_by (settled_group o h) act < t → t ≤ settled_by (settled_group o h) act + 4 → new (freeing_of t) u ≡ (is_given t h u || gives t u act)
+  deferred : (t u : ℕ) → settled_by (settled_group o h) act < t → t ≤ settled_by (settled_group o h) act + 2 → new (deferred_of t) u ≡ (is_given (t - 2) h u || gives (t - 2) u act)
+
+mirrors_after : (o : Origin) (h : List Noted) (lane : ℕ) (act : Act) (new : Sets) → After o h lane act new → Mirrors o (after_act h lane act) new
+mirrors_after o h lane act new a =
+    let note : Noted = record { lane = lane; act = act } in
+    let s : settled_group o (h ++ note ∷ []) ≡ settled_by (settled_group o h) act = settled_group-push o h note in
+    let c : collected_group o (h ++ note ∷ []) ≡ collected_by (collected_group o h) act = collected_group-push o h note in
+    record {
+      within = a.within;
+      vacant = λ loaded u inside.
+          a.vacant (sym (is_loaded-push h note) ∙ loaded) u inside
+          ∙ (ap (λ n. not (keeps_busy n (act_on u (last_act o h u) lane act))) (sym s)
+          ∙ ap (λ last. not (keeps_busy (settled_group o (h ++ note ∷ [])) last)) (sym (last_act-push o h note u)));
+      unloaded = λ idle u. a.unloaded (sym (is_loaded-push h note) ∙ idle) u;
+      gained = λ t u low high. a.gained t u (omega arith) (omega arith) ∙ sym (is_gained-push t h note u);
+      given = λ t u low high. a.given t u (omega arith) (omega arith) ∙ sym (is_given-push t h note u);
+      deferred = λ t u low high. a.deferred t u (omega arith) (omega arith) ∙ sym (is_given-push (t - 2) h note u);
+    }
+
+-- numbers of trees
+
+same_or : (a b : ℕ) → (a ≡ b) ⊎ (a ≡ b → ⊥)
+same_or a b = by_order (le_or a b) (le_or b a) where
+  by_order : (a ≤ b) ⊎ (b < a) → (b ≤ a) ⊎ (a < b) → (a ≡ b) ⊎ (a ≡ b → ⊥)
+  by_order (inl low) (inl high) = inl (omega arith)
+  by_order (inl low) (inr high) = inr (λ e. omega arith)
+  by_order (inr low) high = inr (λ e. omega arith)
+
+four_apart : (c t g : ℕ) → c < t → t ≤ c + 4 → c < g → g ≤ c + 4 → (t ≡ g → ⊥) → t % 4 ≡ g % 4 → ⊥
+four_apart c t g low high from upto none e = none (omega arith)
+
+two_apart : (s t : ℕ) → t ≡ s + 2 → t % 2 ≡ (s + 1) % 2 → ⊥
+two_apart s t next e = omega arith
+
+none_in : (sets new : Sets) (first second u : ℕ) → OthersStayBut sets new first second → ((tree : ℕ) → sets tree u ≡ false) → new first u ≡ false → new second u ≡ false → (tree : ℕ) → new tree u ≡ false
+none_in sets new first second u others none a b tree = by_tree (same_or tree first) (same_or tree second) where
+  by_tree : (tree ≡ first) ⊎ (tree ≡ first → ⊥) → (tree ≡ second) ⊎ (tree ≡ second → ⊥) → new tree u ≡ false
+  by_tree (inl e) f = subst (λ n. new n u ≡ false) (sym e) a
+  by_tree (inr e) (inl f) = subst (λ n. new n u ≡ false) (sym f) b
+  by_tree (inr e) (inr f) = others tree u e f ∙ none tree
+
+none_in_one : (sets new : Sets) (but u : ℕ) → OthersStay sets new but → ((tree : ℕ) → sets tree u ≡ false) → new but u ≡ false → (tree : ℕ) → new tree u ≡ false
+none_in_one sets new but u others none a tree = none_in sets new but but u (λ other v e f. others other v e) none a a tree
+
+-- one unit
+
+with_one : (c y x : Bool) → y ≡ true → (c || x) ≡ cond (y && c) true x
+with_one true y x e = rw e refl
+with_one false y x e = rw (and-false y) refl
+
+without_one : (c y x : Bool) → y ≡ true → (not c && x) ≡ cond (y && c) false x
+without_one true y x e = rw e refl
+without_one false y x e = rw (and-false y) refl
+
+or_one : (c y x : Bool) → y ≡ true → (c || x) ≡ (x || (y && c))
+or_one true y x e = rw e (sym (or_right x true refl))
+or_one false y x e = rw (and-false y) (sym (or_false x))
+
+busy_grant : (c : Bool) (s lane g : ℕ) (last : LastAct) → (not c && not (keeps_busy s last)) ≡ not (keeps_busy s (cond c (granted (Some lane) g) last))
+busy_grant true s lane g last = refl
+busy_grant false s lane g last = refl
+
+busy_unalloc : (c : Bool) (s : ℕ) (last : LastAct) → (c || not (keeps_busy s last)) ≡ not (keeps_busy s (cond c taken_back last))
+busy_unalloc true s last = refl
+busy_unalloc false s last = refl
+
+busy_free : (c : Bool) (s g : ℕ) (last : LastAct) → s < g + 2 → (c ≡ true → keeps_busy s last ≡ true) → keeps_busy s last ≡ keeps_busy s (cond c (freed g) last)
+busy_free true s g last near live = live refl ∙ sym (lt-ltb s (g + 2) near)
+busy_free false s g last near live = refl
+
+module _ (o : Origin) (h : List Noted) (sets : Sets) (legal : IsLegal o h) (m : Mirrors o h sets) (new : Sets) where
+  order : settled_group o h ≤ collected_group o h
+  order = settled_le_collected o h legal
+
+  -- an act that changes no unit and no group, and neither loads nor unloads
+  pub mirrors_quiet : (lane : ℕ) (act : Act) → settled_by (settled_group o h) act ≡ settled_group o h → collected_by (collected_group o h) act ≡ collected_group o h
+      → loaded_by (is_loaded h) act ≡ is_loaded h → ((u : ℕ) → act_on u (last_act o h u) lane act ≡ last_act o h u)
+      → ((t : ℕ) → ChangesIn t act → ⊥) → AllStay sets new → Mirrors o (after_act h lane act) new
+  mirrors_quiet lane act s c l same none stay =
+      mirrors_after o h lane act new (record {
+        within = λ tree u above. stay tree u ∙ m.within tree u above;
+        vacant = λ loaded u inside.
+            stay 0 u ∙ (m.vacant (sym l ∙ loaded) u inside
+            ∙ (ap (λ last. not (keeps_busy (settled_group o h) last)) (sym (same u)) ∙ ap (λ n. not (keeps_busy n (act_on u (last_act o h u) lane act))) (sym s)));
+        unloaded = λ idle u. stay 0 u ∙ m.unloaded (sym l ∙ idle) u;
+        gained = λ t u low high. stay (allocating_of t) u ∙ (m.gained t u (omega arith) (omega arith) ∙ sym (gained_quiet t u (is_gained t h u) act (none t)));
+        given = λ t u low high. stay (freeing_of t) u ∙ (m.given t u (omega arith) (omega arith) ∙ sym (ap (λ b. is_given t h u || b) (gives_quiet t u act (none t)) ∙ or_false (is_given t h u)));
+        deferred = λ t u low high.
+            stay (deferred_of t) u
+            ∙ (m.deferred t u (omega arith) (omega arith) ∙ sym (ap (λ b. is_given (t - 2) h u || b) (gives_quiet (t - 2) u act (none (t - 2))) ∙ or_false (is_given (t - 2) h u)));
+      })
+
+  pub mirrors_miss : (lane count : ℕ) → AllStay sets new → Mirrors o (after_act h lane (Miss count)) new
+  mirrors_miss lane count stay = mirrors_quiet lane (Miss count) refl refl refl (λ u. refl) (λ t x. x) stay
+
+  pub mirrors_shut : (lane : ℕ) → AllStay sets new → Mirrors o (after_act h lane Shut) new
+  mirrors_shut lane stay = mirrors_quiet lane Shut refl refl refl (λ u. refl) (λ t x. x) stay
+
+  -- a group's own change, and that of another group
+  gained_other : (t u g : ℕ) (act : Act) → collected_group o h < t → t ≤ collected_group o h + 4 → (ChangesIn t act → ⊥)
+      → new (allocating_of t) u ≡ sets (allocating_of t) u → new (allocating_of t) u ≡ gained_by t u (is_gained t h u) act
+  gained_other t u g act low high none same = same ∙ (m.gained t u low high ∙ sym (gained_quiet t u (is_gained t h u) act none))
+
+  given_other : (t u : ℕ) (act : Act) → settled_group o h < t → t ≤ settled_group o h + 4 → gives t u act ≡ false
+      → new (freeing_of t) u ≡ sets (freeing_of t) u → new (freeing_of t) u ≡ (is_given t h u || gives t u act)
+  given_other t u act low high none same = same ∙ (m.given t u low high ∙ sym (ap (λ b. is_given t h u || b) none ∙ or_false (is_given t h u)))
+
+  deferred_other : (t u : ℕ) (act : Act) → settled_group o h < t → t ≤ settled_group o h + 2 → gives (t - 2) u act ≡ false
+      → new (deferred_of t) u ≡ sets (deferred_of t) u → new (deferred_of t) u ≡ (is_given (t - 2) h u || gives (t - 2) u act)
+  deferred_other t u act low high none same = same ∙ (m.deferred t u low high ∙ sym (ap (λ b. is_given (t - 2) h u || b) none ∙ or_false (is_given (t - 2) h u)))
+
+  pub mirrors_grant : (lane : ℕ) (group : Group) (seg : Seg) → MayGrant o h group.0 seg
+      → ((u : ℕ) → new 0 u ≡ (not (covers seg u) && sets 0 u))
+      → ((u : ℕ) → new (allocating_of group.0) u ≡ (covers seg u || sets (allocating_of group.0) u))
+      → OthersStayBut sets new 0 (allocating_of group.0) → Mirrors o (after_act h lane (Grant group seg)) new
+  mirrors_grant lane group seg may left gained others =
+      mirrors_after o h lane (Grant group seg) new (record {
+        within = λ tree u above.
+            none_in sets new 0 (allocating_of group.0) u others (λ n. m.within n u above)
+            (left u ∙ (ap (λ b. not (covers seg u) && b) (m.within 0 u above) ∙ and-false (not (covers seg u))))
+            (gained u ∙ rw (covers_high seg u (omega (arith, may.within.within))) (m.within (allocating_of group.0) u above)) tree;
+        vacant = λ loaded u inside.
+            left u ∙ (ap (λ b. not (covers seg u) && b) (m.vacant loaded u inside) ∙ busy_grant (covers seg u) (settled_group o h) lane group.0 (last_act o h u));
+        unloaded = λ idle u. absurd (same_not may.takes.loaded idle);
+        gained = λ t u low high. gained_at t u low high (same_or t group.0);
+        given = λ t u low high. given_other t u (Grant group seg) low high refl (others (freeing_of t) u (λ e. omega arith) (λ e. omega arith));
+        deferred = λ t u low high. deferred_other t u (Grant group seg) low high refl (others (deferred_of t) u (λ e. omega arith) (λ e. omega arith));
+      }) where
+        near : group.0 ≤ collected_group o h + 4
+        near = omega (arith, may.open_group.near, order)
+
+        own : (u : ℕ) → new (allocating_of group.0) u ≡ gained_by group.0 u (is_gained group.0 h u) (Grant group seg)
+        own u =
+            gained u ∙ (ap (λ b. covers seg u || b) (m.gained group.0 u may.open_group.above near)
+            ∙ with_one (covers seg u) (group.0 == group.0) (is_gained group.0 h u) (own_group group.0 group.0 refl))
+
+        gained_at : (t u : ℕ) → collected_group o h < t → t ≤ collected_group o h + 4 → (t ≡ group.0) ⊎ (t ≡ group.0 → ⊥)
+            → new (allocating_of t) u ≡ gained_by t u (is_gained t h u) (Grant group seg)
+        gained_at t u low high (inl e) = subst (λ n. new (allocating_of n) u ≡ gained_by n u (is_gained n h u) (Grant group seg)) (sym e) (own u)
+        gained_at t u low high (inr e) =
+            gained_other t u group.0 (Grant group seg) low high (λ f. e (sym f))
+            (others (allocating_of t) u (λ f. omega arith) (λ f. four_apart (collected_group o h) t group.0 low high may.open_group.above near e (omega arith)))
+
+  pub mirrors_free : (lane : ℕ) (group : Group) (seg : Seg) → MayFree o h group.0 seg
+      → ((u : ℕ) → new (freeing_of group.0) u ≡ (covers seg u || sets (freeing_of group.0) u))
+      → OthersStay sets new (freeing_of group.0) → Mirrors o (after_act h lane (Free group seg)) new
+  mirrors_free lane group seg may given others =
+      mirrors_after o h lane (Free group seg) new (record {
+        within = λ tree u above.
+            none_in_one sets new (freeing_of group.0) u others (λ n. m.within n u above)
+            (given u ∙ rw (covers_high seg u (omega (arith, may.within.within))) (m.within (freeing_of group.0) u above)) tree;
+        vacant = λ loaded u inside.
+            others 0 u (λ e. omega arith)
+            ∙ (m.vacant loaded u inside
+            ∙ ap not (busy_free (covers seg u) (settled_group o h) group.0 (last_act o h u) (omega (arith, later))
+            (λ c. live_busy (settled_group o h) (last_act o h u) (granted_by_live group.0 (last_act o h u) (may.live u (covers_true seg u c))))));
+        unloaded = λ idle u. absurd (same_not may.loaded idle);
+        gained = λ t u low high. others (allocating_of t) u (λ e. omega arith) ∙ m.gained t u low high;
+        given = λ t u low high. given_at t u low high (same_or t group.0);
+        deferred = λ t u low high.
+            deferred_other t u (Free group seg) low high (gives_quiet (t - 2) u (Free group seg) (λ e. omega (arith, later))) (others (deferred_of t) u (λ e. omega arith));
+      }) where
+        later : settled_group o h < group.0
+        later = omega (arith, may.open_group.above, order)
+
+        near : group.0 ≤ settled_group o h + 4
+        near = omega (arith, may.open_group.near)
+
+        own : (u : ℕ) → new (freeing_of group.0) u ≡ (is_given group.0 h u || gives group.0 u (Free group seg))
+        own u =
+            given u ∙ (ap (λ b. covers seg u || b) (m.given group.0 u later near)
+            ∙ or_one (covers seg u) (group.0 == group.0) (is_given group.0 h u) (own_group group.0 group.0 refl))
+
+        given_at : (t u : ℕ) → settled_group o h < t → t ≤ settled_group o h + 4 → (t ≡ group.0) ⊎ (t ≡ group.0 → ⊥)
+            → new (freeing_of t) u ≡ (is_given t h u || gives t u (Free group seg))
+        given_at t u low high (inl e) = subst (λ n. new (freeing_of n) u ≡ (is_given n h u || gives n u (Free group seg))) (sym e) (own u)
+        given_at t u low high (inr e) =
+            given_other t u (Free group seg) low high (gives_quiet t u (Free group seg) (λ f. e (sym f)))
+            (others (freeing_of t) u (λ f. four_apart (settled_group o h) t group.0 low high later near e (omega arith)))
+
+  pub mirrors_unalloc : (lane : ℕ) (group : Group) (seg : Seg) → MayTakeBack o h lane group.0 seg
+      → ((u : ℕ) → new 0 u ≡ (covers seg u || sets 0 u))
+      → ((u : ℕ) → new (allocating_of group.0) u ≡ (not (covers seg u) && sets (allocating_of group.0) u))
+      → OthersStayBut sets new 0 (allocating_of group.0) → Mirrors o (after_act h lane (Unalloc group seg)) new
+  mirrors_unalloc lane group seg may back left others =
+      mirrors_after o h lane (Unalloc group seg) new (record {
+        within = λ tree u above.
+            none_in sets new 0 (allocating_of group.0) u others (λ n. m.within n u above)
+            (back u ∙ rw (covers_high seg u (omega (arith, may.within.within))) (m.within 0 u above))
+            (left u ∙ (ap (λ b. not (covers seg u) && b) (m.within (allocating_of group.0) u above) ∙ and-false (not (covers seg u)))) tree;
+        vacant = λ loaded u inside.
+            back u ∙ (ap (λ b. covers seg u || b) (m.vacant loaded u inside) ∙ busy_unalloc (covers seg u) (settled_group o h) (last_act o h u));
+        unloaded = λ idle u. absurd (same_not may.loaded idle);
+        gained = λ t u low high. gained_at t u low high (same_or t group.0);
+        given = λ t u low high. given_other t u (Unalloc group seg) low high refl (others (freeing_of t) u (λ e. omega arith) (λ e. omega arith));
+        deferred = λ t u low high. deferred_other t u (Unalloc group seg) low high refl (others (deferred_of t) u (λ e. omega arith) (λ e. omega arith));
+      }) where
+        near : group.0 ≤ collected_group o h + 4
+        near = omega (arith, may.open_group.near, order)
+
+        own : (u : ℕ) → new (allocating_of group.0) u ≡ gained_by group.0 u (is_gained group.0 h u) (Unalloc group seg)
+        own u =
+            left u ∙ (ap (λ b. not (covers seg u) && b) (m.gained group.0 u may.open_group.above near)
+            ∙ without_one (covers seg u) (group.0 == group.0) (is_gained group.0 h u) (own_group group.0 group.0 refl))
+
+        gained_at : (t u : ℕ) → collected_group o h < t → t ≤ collected_group o h + 4 → (t ≡ group.0) ⊎ (t ≡ group.0 → ⊥)
+            → new (allocating_of t) u ≡ gained_by t u (is_gained t h u) (Unalloc group seg)
+        gained_at t u low high (inl e) = subst (λ n. new (allocating_of n) u ≡ gained_by n u (is_gained n h u) (Unalloc group seg)) (sym e) (own u)
+        gained_at t u low high (inr e) =
+            gained_other t u group.0 (Unalloc group seg) low high (λ f. e (sym f))
+            (others (allocating_of t) u (λ f. omega arith) (λ f. four_apart (collected_group o h) t group.0 low high may.open_group.above near e (omega arith)))
+
+  pub mirrors_collect : (lane : ℕ) (group : Group) → group.0 ≡ collected_group o h + 1
+      → ((u : ℕ) → new (allocating_of group.0) u ≡ false) → OthersStay sets new (allocating_of group.0)
+      → Mirrors o (after_act h lane (Collect group)) new
+  mirrors_collect lane group next empty others =
+      mirrors_after o h lane (Collect group) new (record {
+        within = λ tree u above. none_in_one sets new (allocating_of group.0) u others (λ n. m.within n u above) (empty u) tree;
+        vacant = λ loaded u inside. others 0 u (λ e. omega arith) ∙ m.vacant loaded u inside;
+        unloaded = λ idle u. others 0 u (λ e. omega arith) ∙ m.unloaded idle u;
+        gained = λ t u low high. gained_at t u low high (le_or t (collected_group o h + 4));
+        given = λ t u low high. given_other t u (Collect group) low high refl (others (freeing_of t) u (λ e. omega arith));
+        deferred = λ t u low high. deferred_other t u (Collect group) low high refl (others (deferred_of t) u (λ e. omega arith));
+      }) where
+        gained_at : (t u : ℕ) → group.0 < t → t ≤ group.0 + 4 → (t ≤ collected_group o h + 4) ⊎ (collected_group o h + 4 < t) → new (allocating_of t) u ≡ is_gained t h u
+        gained_at t u low high (inl near) =
+            others (allocating_of t) u (λ e. four_apart (collected_group o h) t group.0 (omega arith) near (omega arith) (omega arith) (λ f. omega arith) (omega arith))
+            ∙ m.gained t u (omega arith) near
+        gained_at t u low high (inr far) =
+            let same : allocating_of t ≡ allocating_of group.0 = omega arith in
+            ap (λ n. new n u) same ∙ (empty u ∙ sym (gained_far o h t u legal (omega (arith, order))))
+
+  pub mirrors_settle : (lane : ℕ) (group : Group) → group.0 ≡ settled_group o h + 1 → group.0 ≤ collected_group o h
+      → Settles (is_loaded h) sets new group.0 → Mirrors o (after_act h lane (Settle group)) new
+  mirrors_settle lane group next closed s =
+      mirrors_after o h lane (Settle group) new (record {
+        within = λ tree u above. within_at u above tree (same_or tree 0) (same_or tree (deferred_of group.0)) (same_or tree (freeing_of group.0));
+        vacant = λ loaded u inside.
+            s.vacant loaded u
+            ∙ (ap (λ b. b || sets 0 u) (m.deferred group.0 u (omega arith) (omega arith))
+            ∙ (ap (λ b. is_given (group.0 - 2) h u || b) (m.vacant loaded u inside)
+            ∙ vacant_next o h legal group.0 u next));
+        unloaded = λ idle u. s.unloaded idle u ∙ m.unloaded idle u;
+        gained = λ t u low high. s.others (allocating_of t) u (λ e. omega arith) (λ e. omega arith) (λ e. omega arith) ∙ m.gained t u low high;
+        given = λ t u low high. given_at t u low high (le_or t (settled_group o h + 4)) ∙ sym (or_false (is_given t h u));
+        deferred = λ t u low high. deferred_at t u low high (le_or t (settled_group o h + 2)) ∙ sym (or_false (is_given (t - 2) h u));
+      }) where
+        zero_at : (u : ℕ) → o.units ≤ u → (is_loaded h ≡ true) ⊎ (is_loaded h ≡ false) → new 0 u ≡ false
+        zero_at u above (inl loaded) = s.vacant loaded u ∙ rw (m.within (deferred_of group.0) u above) (m.within 0 u above)
+        zero_at u above (inr idle) = s.unloaded idle u ∙ m.unloaded idle u
+
+        within_at : (u : ℕ) → o.units ≤ u → (tree : ℕ) → (tree ≡ 0) ⊎ (tree ≡ 0 → ⊥) → (tree ≡ deferred_of group.0) ⊎ (tree ≡ deferred_of group.0 → ⊥)
+            → (tree ≡ freeing_of group.0) ⊎ (tree ≡ freeing_of group.0 → ⊥) → new tree u ≡ false
+        within_at u above tree (inl a) b c = ap (λ n. new n u) a ∙ zero_at u above (true_or_false (is_loaded h))
+        within_at u above tree (inr a) (inl b) c = ap (λ n. new n u) b ∙ (s.deferred u ∙ m.within (freeing_of group.0) u above)
+        within_at u above tree (inr a) (inr b) (inl c) = ap (λ n. new n u) c ∙ s.given u
+        within_at u above tree (inr a) (inr b) (inr c) = s.others tree u a b c ∙ m.within tree u above
+
+        given_at : (t u : ℕ) → group.0 < t → t ≤ group.0 + 4 → (t ≤ settled_group o h + 4) ⊎ (settled_group o h + 4 < t) → new (freeing_of t) u ≡ is_given t h u
+        given_at t u low high (inl near) =
+            s.others (freeing_of t) u (λ e. omega arith) (λ e. omega arith)
+            (λ e. four_apart (settled_group o h) t group.0 (omega arith) near (omega arith) (omega arith) (λ f. omega arith) (omega arith))
+            ∙ m.given t u (omega arith) near
+        given_at t u low high (inr far) =
+            let same : freeing_of t ≡ freeing_of group.0 = omega arith in
+            ap (λ n. new n u) same ∙ (s.given u ∙ sym (given_far o h t u legal (omega arith)))
+
+        deferred_at : (t u : ℕ) → group.0 < t → t ≤ group.0 + 2 → (t ≤ settled_group o h + 2) ⊎ (settled_group o h + 2 < t) → new (deferred_of t) u ≡ is_given (t - 2) h u
+        deferred_at t u low high (inl near) =
+            s.others (deferred_of t) u (λ e. omega arith) (λ e. two_apart (settled_group o h) t (omega arith) (omega arith)) (λ e. omega arith)
+            ∙ m.deferred t u (omega arith) near
+        deferred_at t u low high (inr far) =
+            let same : deferred_of t ≡ deferred_of group.0 = omega arith in
+            let two : group.0 ≡ t - 2 = omega arith in
+            ap (λ n. new n u) same ∙ (s.deferred u ∙ (m.given group.0 u (omega arith) (omega arith) ∙ ap (λ n. is_given n h u) two))
+
+  pub mirrors_load : (lane : ℕ) → is_loaded h ≡ false
+      → ((u : ℕ) → u < o.units → new 0 u ≡ is_vacant o h u) → ((u : ℕ) → o.units ≤ u → new 0 u ≡ false)
+      → OthersStay sets new 0 → Mirrors o (after_act h lane Load) new
+  mirrors_load lane idle vacant above others =
+      mirrors_after o h lane Load new (record {
+        within = λ tree u past. none_in_one sets new 0 u others (λ n. m.within n u past) (above u past) tree;
+        vacant = λ loaded u inside. vacant u inside;
+        unloaded = λ none u. absurd (cc);
+        gained = λ t u low high. others (allocating_of t) u (λ e. omega arith) ∙ m.gained t u low high;
+        given = λ t u low high. given_other t u Load low high refl (others (freeing_of t) u (λ e. omega arith));
+        deferred = λ t u low high. deferred_other t u Load low high refl (others (deferred_of t) u (λ e. omega arith));
+      })
+
+-- a group settles: what is deferred moves to the vacant units, or is dropped, and what was given back moves after it
+
+pub moved_apart : (from into : ℕ → Bool) → ((u : ℕ) → into u ≡ false) → AreDisjoint from into
+moved_apart from into empty = λ u h. empty u
+
+pub settles_loaded : (sets middle new : Sets) (group : ℕ)
+    → ((u : ℕ) → middle 0 u ≡ (sets (deferred_of group) u || sets 0 u)) → ((u : ℕ) → middle (deferred_of group) u ≡ false)
+    → OthersStayBut sets middle (deferred_of group) 0
+    → ((u : ℕ) → new (deferred_of group) u ≡ (middle (freeing_of group) u || middle (deferred_of group) u))
+    → ((u : ℕ) → new (freeing_of group) u ≡ false) → OthersStayBut middle new (freeing_of group) (deferred_of group)
+    → Settles true sets new group
+settles_loaded sets middle new group vacant empty stay deferred given others =
+    record {
+      vacant = λ _ u. others 0 u (λ e. omega arith) (λ e. omega arith) ∙ vacant u;
+      unloaded = λ none u. absurd (cc);
+      deferred = λ u. moved_to u (middle (freeing_of group) u) (middle (deferred_of group) u) (deferred u) (empty u) ∙ stay (freeing_of group) u (λ e. omega arith) (λ e. omega arith);
+      given = given;
+      others = λ tree u a b c. others tree u c b ∙ stay tree u b a;
+    } where
+      moved_to : (u : ℕ) (x y : Bool) → new (deferred_of group) u ≡ (x || y) → y ≡ false → new (deferred_of group) u ≡ x
+      moved_to u x y e f = e ∙ (ap (λ b. x || b) f ∙ or_false x)
+
+pub settles_unloaded : (sets middle new : Sets) (group : ℕ)
+    → ((u : ℕ) → middle (deferred_of group) u ≡ false) → OthersStay sets middle (deferred_of group)
+    → ((u : ℕ) → new (deferred_of group) u ≡ (middle (freeing_of group) u || middle (deferred_of group) u))
+    → ((u : ℕ) → new (freeing_of group) u ≡ false) → OthersStayBut middle new (freeing_of group) (deferred_of group)
+    → Settles false sets new group
+settles_unloaded sets middle new group empty stay deferred given others =
+    record {
+      vacant = λ none u. absurd (cc);
+      unloaded = λ _ u. others 0 u (λ e. omega arith) (λ e. omega arith) ∙ stay 0 u (λ e. omega arith);
+      deferred = λ u. moved_to u (middle (freeing_of group) u) (middle (deferred_of group) u) (deferred u) (empty u) ∙ stay (freeing_of group) u (λ e. omega arith);
+      given = given;
+      others = λ tree u a b c. others tree u c b ∙ stay tree u b;
+    } where
+      moved_to : (u : ℕ) (x y : Bool) → new (deferred_of group) u ≡ (x || y) → y ≡ false → new (deferred_of group) u ≡ x
+      moved_to u x y e f = e ∙ (ap (λ b. x || b) f ∙ or_false x)

@@ -1,0 +1,53 @@
+-- What the trees of a metaslab have, before an act changes them.
+use Rattle.std.proofs.Common.{◌≡◌, ℕ, ◌+◌, ◌-◌, ◌≤◌, ◌<◌, true, false, List, sym, ◌∙◌, ap, arith, ◌⊎◌, inl, inr}
+use Rattle.std.specs.Prelude.{not}
+use Rattle.zms_units.specs.declared.segments.Seg.{Seg}
+use Rattle.zms_units.proofs.UnitTests.{le_or, true_or_false}
+use Rattle.seg_trees.specs.Sets.{Sets, HoldsAll, HoldsNone, AreDisjoint}
+use Rattle.ms_model.specs.Origin.{Origin}
+use Rattle.ms_model.specs.Units.{last_act, settled_group, is_loaded}
+use Rattle.ms_model.specs.Spaces.{keeps_busy}
+use Rattle.ms_model.specs.Gains.{is_given}
+use Rattle.ms_model.specs.Legal.{MayGrant, MayFree, MayTakeBack, IsLegal}
+use Rattle.ms_model.specs.declared.notes.Noted.{Noted}
+use Rattle.ms_model.proofs.Overlaps.{settled_le_collected}
+use Rattle.ms_model.proofs.Changes.{last_gained, granted_by_live, vacant_not_gained, live_not_given, given_busy, open_settled}
+use Rattle.ms_core.specs.Mirrors.{Mirrors, allocating_of, freeing_of, deferred_of}
+
+module _ (o : Origin) (h : List Noted) (sets : Sets) (legal : IsLegal o h) (m : Mirrors o h sets) where
+  -- what may be granted is vacant, and the group gained none of it
+  pub grant_vacant : (group : ℕ) (seg : Seg) → MayGrant o h group seg → HoldsAll (sets 0) seg
+  grant_vacant group seg may u c = m.vacant may.takes.loaded u (omega (arith, may.within.within)) ∙ may.vacant u c
+
+  pub grant_apart : (group : ℕ) (seg : Seg) → MayGrant o h group seg → HoldsNone (sets (allocating_of group)) seg
+  grant_apart group seg may u c =
+      m.gained group u may.open_group.above (omega (arith, may.open_group.near, settled_le_collected o h legal))
+      ∙ vacant_not_gained o h legal group u (open_settled o h legal group may.open_group.above) (may.vacant u c)
+
+  -- what may be freed was not given back
+  pub free_apart : (group : ℕ) (seg : Seg) → MayFree o h group seg → HoldsNone (sets (freeing_of group)) seg
+  free_apart group seg may u c =
+      let later : settled_group o h < group = open_settled o h legal group may.open_group.above in
+      m.given group u later (omega (arith, may.open_group.near))
+      ∙ live_not_given o h legal group u (omega arith) (granted_by_live group (last_act o h u) (may.live u c))
+
+  -- what may be taken back is the group's gain, and not vacant
+  pub unalloc_gained : (lane group : ℕ) (seg : Seg) → MayTakeBack o h lane group seg → HoldsAll (sets (allocating_of group)) seg
+  unalloc_gained lane group seg may u c =
+      m.gained group u may.open_group.above (omega (arith, may.open_group.near, settled_le_collected o h legal))
+      ∙ last_gained o h u lane group (may.own u c)
+
+  pub unalloc_apart : (lane group : ℕ) (seg : Seg) → MayTakeBack o h lane group seg → HoldsNone (sets 0) seg
+  unalloc_apart lane group seg may u c =
+      m.vacant may.loaded u (omega (arith, may.within.within)) ∙ ap (λ last. not (keeps_busy (settled_group o h) last)) (may.own u c)
+
+  -- what is deferred is not vacant
+  pub settle_apart : (group : ℕ) → group ≡ settled_group o h + 1 → AreDisjoint (sets (deferred_of group)) (sets 0)
+  settle_apart group next u deferred = by_load (true_or_false (is_loaded h)) (le_or o.units u) where
+    given : is_given (group - 2) h u ≡ true
+    given = sym (m.deferred group u (omega arith) (omega arith)) ∙ deferred
+
+    by_load : (is_loaded h ≡ true) ⊎ (is_loaded h ≡ false) → (o.units ≤ u) ⊎ (u < o.units) → sets 0 u ≡ false
+    by_load (inl loaded) (inl above) = m.within 0 u above
+    by_load (inl loaded) (inr inside) = m.vacant loaded u inside ∙ ap not (given_busy o h legal (group - 2) u (omega arith) given)
+    by_load (inr idle) place = m.unloaded idle u
