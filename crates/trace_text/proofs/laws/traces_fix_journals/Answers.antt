@@ -1,0 +1,5 @@
+use Rattle.trace_text.proofs.TracesFixed.{trace_fixed}
+use Rattle.trace_text.proofs.laws.traces_fix_journals.Goals as goal
+
+pub returns : goal.returns
+returns c = trace_fixed

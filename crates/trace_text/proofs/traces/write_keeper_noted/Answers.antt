@@ -1,0 +1,23 @@
+use Rattle.std.proofs.Common.{refl}
+use Rattle.std.specs.Prelude.{decimal}
+use Rattle.trace_text.specs.Traces.{keeper_note_text}
+use Rattle.trace_text.proofs.Printing.{printed_first, printed_more, prints_failed, prints_failed_first, prints_tail, line_front, line_all}
+use Rattle.trace_text.proofs.traces.write_keeper_noted.Goals as goal
+
+pub returns-in_err-write_place : goal.returns-in_err-write_place
+returns-in_err-write_place g c =
+    prints_failed_first _ _ _ _ _ _ _ _ _ _ c.write_place.ensures c.in_err-write_place.was c.from_residual.ensures.0
+    (line_front (decimal c.args.place) (decimal c.args.lane) (keeper_note_text c.args.note))
+
+pub returns-in_err-write_keeper_note : goal.returns-in_err-write_keeper_note
+returns-in_err-write_keeper_note g c =
+    let place = printed_first _ _ _ _ _ _ _ c.write_place.ensures c.in_ok-write_place.was in
+    prints_failed _ _ _ _ _ _ _ _ _ _ _ _ _ place c.write_keeper_note.ensures c.in_err-write_keeper_note.was c.from_residual-in_err-write_keeper_note.ensures.0
+    (line_front (decimal c.args.place) (decimal c.args.lane) (keeper_note_text c.args.note))
+
+pub returns : goal.returns
+returns g c =
+    let place = printed_first _ _ _ _ _ _ _ c.write_place.ensures c.in_ok-write_place.was in
+    let note = printed_more _ _ _ _ _ _ _ _ _ _ _ place c.write_keeper_note.ensures c.in_ok-write_keeper_note.was refl in
+    prints_tail _ _ _ _ _ _ _ _ _ _ note c.write_word.ensures
+    (line_all (decimal c.args.place) (decimal c.args.lane) (keeper_note_text c.args.note))

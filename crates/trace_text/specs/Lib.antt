@@ -1,0 +1,4 @@
+pub mod Printing
+pub mod Numbers
+pub mod Traces
+pub mod Laws
