@@ -9,3 +9,4 @@ pub mod WalkedRuns
 pub mod Lookback
 pub mod Keeping
 pub mod Bucketing
+pub mod Sparing

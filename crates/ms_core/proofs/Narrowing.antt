@@ -131,7 +131,7 @@ unfolding all_units
 range_most = omega arith
 
 -- the trees never have more nodes than this
-nodes_most : (set : ℕ → Bool) → nodes_of set ≤ 131072
+pub nodes_most : (set : ℕ → Bool) → nodes_of set ≤ 131072
 nodes_most set = omega (arith, range_most, units_le (begins_run set) all_units)
 
 one_longer : (x : ℕ) (xs : List ℕ) → length (x ∷ xs) ≡ length xs + 1

@@ -5,7 +5,7 @@ use Rattle.std.specs.Vec.{vec_len, vec_capacity}
 use Rattle.zms_units.specs.declared.segments.Seg.{Seg}
 use Rattle.zms_units.specs.Segments.{covered, AreSegs}
 use Rattle.zms_units.specs.Runs.{units_in}
-use Rattle.seg_trees.specs.Sets.{Sets}
+use Rattle.seg_trees.specs.Sets.{Sets, nodes_of}
 use Rattle.ms_model.specs.Origin.{Origin}
 use Rattle.ms_model.specs.Units.{settled_group, collected_group, is_loaded, worker_at}
 use Rattle.ms_model.specs.Cursors.{cursor_at}
@@ -17,14 +17,19 @@ use Rattle.ms_core.specs.Mirrors.{Mirrors}
 use Rattle.ms_core.specs.State.{MsState}
 use Rattle.ms_core.specs.declared.metaslab.Metaslab.TheInside.{Inside}
 
+-- how many nodes the trees have of what is given back and not vacant yet
+abbrev pub waiting_nodes : Sets → ℕ
+waiting_nodes sets = nodes_of (sets 5) + (nodes_of (sets 6) + (nodes_of (sets 7) + (nodes_of (sets 8) + (nodes_of (sets 9) + nodes_of (sets 10)))))
+
 -- for how many actions there is room: each takes up to two notes, its own and that of a later settle, beside those that
--- the groups to be settled will take, and up to two nodes of the trees
-abbrev pub action_room : {R : Type 0} → (R → ℕ) → Inside R → ℕ
-action_room spare m = min ((vec_capacity m.notes - (vec_len m.notes + (m.collected.0 - m.settled.0))) / 2) (spare m.trees / 2)
+-- the groups to be settled will take, and up to two spare nodes of the trees, beside as many as wait
+abbrev pub action_room : {R : Type 0} → (R → Sets) → (R → ℕ) → Inside R → ℕ
+action_room set spare m = min ((vec_capacity m.notes - (vec_len m.notes + (m.collected.0 - m.settled.0))) / 2) ((spare m.trees - waiting_nodes (set m.trees)) / 2)
 
 -- what contracts see
-abbrev pub state_in : {R : Type 0} → (R → ℕ) → Inside R → MsState
-state_in spare m = record { id = m.id; units = m.units; ashift = m.ashift; opened = m.opened.0; base = m.base.items; notes = m.notes.items; room = action_room spare m }
+abbrev pub state_in : {R : Type 0} → (R → Sets) → (R → ℕ) → Inside R → MsState
+state_in set spare m =
+    record { id = m.id; units = m.units; ashift = m.ashift; opened = m.opened.0; base = m.base.items; notes = m.notes.items; room = action_room set spare m }
 
 -- what is kept, as numbers and lists
 pub record Book : Type 0 where
@@ -66,7 +71,8 @@ pub record IsKept (sets : Sets) (m : Book) : Type 0 where
   pub live : m.live ≡ live_units (origin_in m) m.notes
   pub deferred : m.deferred ≡ deferred_units (origin_in m) m.notes
 
--- the same of the fields, and there is room for the note of each settle to come
-pub record HoldsTogether {R : Type 0} (set : R → Sets) (m : Inside R) : Type 0 where
+-- the same of the fields, and there is room for the note of each settle to come, and for each node that waits for one
+pub record HoldsTogether {R : Type 0} (set : R → Sets) (spare : R → ℕ) (m : Inside R) : Type 0 where
   pub kept : IsKept (set m.trees) (book_in m)
+  pub waiting : waiting_nodes (set m.trees) ≤ spare m.trees
   pub room : vec_len m.notes + m.collected.0 ≤ vec_capacity m.notes + m.settled.0

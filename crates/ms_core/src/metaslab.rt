@@ -14,6 +14,7 @@ ghost use Rattle.ms_model.specs.Laws.{IsFreeOfAll};
 ghost use Rattle.ms_model.specs.declared.notes.Act.TheVariants.{Grant, Free, Unalloc, Miss, Collect, Settle, Load};
 ghost use Rattle.ms_core.specs.State.{origin_of, settled_of, collected_of, noted, StaysButNotes, StaysButRoom};
 ghost use Rattle.ms_core.specs.Buffers.{run_room, changed_runs};
+ghost use Rattle.ms_core.specs.Kept.{waiting_nodes};
 ghost use Rattle.ms_core.specs.Mirrors.{Settles, allocating_of, freeing_of, deferred_of};
 ghost use Rattle.ms_core.specs.Asked.{IsLowestLacking};
 ghost use Rattle.ms_core.specs.Weights.{IsWeightOfSet, as_one_run};
@@ -69,9 +70,9 @@ impl<R: SegTrees> Model for Metaslab<R> {
 
     ghost use Rattle.ms_core.specs.Kept.{state_in, HoldsTogether};
 
-    ghost view = { state_in R.spare };
+    ghost view = { state_in R.set R.spare };
 
-    ghost invariant = { HoldsTogether R.set };
+    ghost invariant = { HoldsTogether R.set R.spare };
 }
 
 /// Adds a lane's act to a journal that has room for it.
@@ -113,6 +114,18 @@ fn deferred_tree(group: Group) -> u8
     ensures { result ≡ deferred_of group.0 }
 {
     9 + (group.0 % 2) as u8
+}
+
+/// How many nodes the trees have of what is given back and not vacant yet.
+fn waiting_nodes<R: SegTrees>(trees: &R) -> u32
+    ensures { result ≡ waiting_nodes (R.set trees.now) }
+{
+    trees.nodes(5)
+        + trees.nodes(6)
+        + trees.nodes(7)
+        + trees.nodes(8)
+        + trees.nodes(9)
+        + trees.nodes(10)
 }
 
 /// What a settle does to the trees: what was deferred until now is vacant, or let go where free space is not in memory,
@@ -183,7 +196,8 @@ impl<R: SegTrees> Metaslab<R> {
     {
         let unsettled = (self.collected.0 - self.settled.0) as usize;
         self.notes.reserve(unsettled + 2)?;
-        self.trees.reserve(2)
+        let waiting = waiting_nodes(&self.trees);
+        self.trees.reserve(waiting + 2)
     }
 
     /// Hands out `count` units in a row, in this group, as `metaslab_block_alloc` does with `metaslab_df_alloc`: the first
@@ -479,7 +493,8 @@ impl<R: SegTrees> Metaslab<R> {
         }
         let unsettled = (self.collected.0 - self.settled.0) as usize;
         self.notes.reserve(unsettled + 1)?;
-        self.trees.reserve(held.len() as u32 + 1)?;
+        let waiting = waiting_nodes(&self.trees);
+        self.trees.reserve(waiting + held.len() as u32 + 1)?;
         add_gaps(&mut self.trees, held, self.units);
         self.cursors = [0; 18];
         self.loaded = true;

@@ -93,6 +93,7 @@ pub(crate) fn add_gaps<R: SegTrees>(trees: &mut R, held: &[Seg], units: u32)
     ensures gaps { (u : ℕ) → u < units → R.set trees.new 0 u ≡ not (covered held.now u) }
     ensures above { (u : ℕ) → units ≤ u → R.set trees.new 0 u ≡ false }
     ensures others { OthersStay (R.set trees.old) (R.set trees.new) 0 }
+    ensures spare { R.spare trees.old ≤ R.spare trees.new + (length held.now + 1) }
 {
     let mut next = 0;
     for seg in held {

@@ -13,6 +13,7 @@ use Rattle.ms_core.proofs.Mirroring.{free_apart}
 use Rattle.ms_core.proofs.Mirrored.{after_act}
 use Rattle.ms_core.proofs.Counted.{live_free, deferred_free}
 use Rattle.ms_core.proofs.Keeping.{may_free, kept_free}
+use Rattle.ms_core.proofs.Sparing.{waiting_free}
 use Rattle.ms_core.proofs.metaslab.Metaslab.free.Goals as goal
 
 pub add-requires-clause-apart : goal.add-requires-clause-apart
@@ -73,6 +74,7 @@ invariant_of-self g c =
     let others : OthersStay set new (freeing_of c.args.group.0) = subst (λ t. OthersStay set new t) c.freeing_tree.ensures c.add.ensures.others in
     record {
       kept = kept_free set new (book_in m) k c.push_note.new.notes.items c.args.lane c.args.group c.args.seg c.push_note.ensures.items may given others;
+      waiting = omega (arith, room, c.add.ensures.spare, waiting_free set new c.args.seg (record { some = within.some; within = omega (arith, within.within, k.most) }) c.args.group.0 others given);
       room = omega (arith, k.order, c.self.invariant.room, c.push_note.ensures.len, c.push_note.ensures.capacity);
     }
 
@@ -87,3 +89,15 @@ returns-clause-freed g c =
     let live = subst (λ (s : MsState). (u : ℕ) → Covers c.args.seg u → IsGrantedBy c.args.group.0 (last_act (origin_of s) s.notes u)) (sym c.self.view_is) c.in_default.ensures.none in
     let may = may_free set (book_in m) k c.if-not-self.false c.args.group.0 c.args.seg c.if-group-self.false near within live in
     subst (λ (s : MsState). MayFree (origin_of s) s.notes c.args.group.0 c.args.seg) c.self.view_is may
+
+pub returns-clause-room : goal.returns-clause-room
+returns-clause-room g c =
+    let m = c.self.inside in
+    let k = c.self.invariant.kept in
+    let set = g.R.SegTrees.set m.trees in
+    let within = subst (λ (s : MsState). IsWithin s.units c.args.seg) (sym c.self.view_is) c.requires.segment in
+    let new = g.R.SegTrees.set c.add.new.trees in
+    let given = rw c.freeing_tree.ensures at c.add.ensures.added in
+    let others : OthersStay set new (freeing_of c.args.group.0) = subst (λ t. OthersStay set new t) c.freeing_tree.ensures c.add.ensures.others in
+    let same = ap (λ (s : MsState). s.room) c.self.view_is in
+    omega (arith, same, k.order, c.self.invariant.room, c.self.invariant.waiting, waiting_free set new c.args.seg (record { some = within.some; within = omega (arith, within.within, k.most) }) c.args.group.0 others given, c.add.ensures.spare, c.push_note.ensures.len, c.push_note.ensures.capacity)

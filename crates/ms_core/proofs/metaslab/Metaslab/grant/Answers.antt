@@ -15,6 +15,7 @@ use Rattle.ms_core.proofs.Mirroring.{grant_vacant, grant_apart}
 use Rattle.ms_core.proofs.Mirrored.{after_act}
 use Rattle.ms_core.proofs.Counted.{live_grant}
 use Rattle.ms_core.proofs.Keeping.{Fits, kept_miss, kept_grant, may_miss, may_grant}
+use Rattle.ms_core.proofs.Sparing.{waiting_moved}
 use Rattle.ms_core.proofs.metaslab.Metaslab.grant.Goals as goal
 
 pub invariant_of-self : goal.invariant_of-self
@@ -27,6 +28,7 @@ invariant_of-self g c =
     record {
       kept =
           kept_miss set set (book_in m) k c.push_note.new.notes.items c.args.lane c.args.count c.push_note.ensures.items (may_miss set (book_in m) k c.if-not-self.false c.args.count none) (λ tree u. refl);
+      waiting = c.self.invariant.waiting;
       room = omega (arith, k.order, c.self.invariant.room, c.push_note.ensures.len, c.push_note.ensures.capacity);
     }
 
@@ -92,6 +94,7 @@ invariant_of-self-2 g c =
       kept =
           rw (sym fits.counts)
           (kept_grant set new (book_in m) k c.push_note-2.new.notes.items c.args.lane c.args.group c.in-Some.seg _ c.push_note-2.ensures.items may c.move_seg.ensures.from into others c.move_cursor.ensures);
+      waiting = omega (arith, room, c.move_seg.ensures.spare, waiting_moved set new (allocating_of c.args.group.0) (omega arith) (λ tree u a b. others tree u a b));
       room = omega (arith, k.order, c.self.invariant.room, c.push_note-2.ensures.len, c.push_note-2.ensures.capacity);
     }
 
@@ -115,3 +118,13 @@ returns-clause-free g c =
     let may = may_grant set (book_in m) k c.if-not-self.false c.args.group.0 c.args.count c.in-Some.seg (omega (arith, c.requires.count.0)) (omega (arith, c.requires.count.1)) c.if-group-self.false near fits in
     subst (λ (s : MsState). (u : ℕ) → Covers c.in-Some.seg u → IsFreeOfAll (origin_of s) s.notes u) c.self.view_is
     (λ u there. vacant_free (origin_in (book_in m)) m.notes.items u k.legal (may.vacant u there))
+
+pub returns-clause-room : goal.returns-clause-room
+returns-clause-room g c =
+    let m = c.self.inside in
+    let k = c.self.invariant.kept in
+    let set = g.R.SegTrees.set m.trees in
+    let new = g.R.SegTrees.set c.move_seg.new.trees in
+    let others : OthersStayBut set new 0 (allocating_of c.args.group.0) = subst (λ t. OthersStayBut set new 0 t) c.allocating_tree.ensures c.move_seg.ensures.others in
+    let same = ap (λ (s : MsState). s.room) c.self.view_is in
+    omega (arith, same, k.order, c.self.invariant.room, c.self.invariant.waiting, waiting_moved set new (allocating_of c.args.group.0) (omega arith) (λ tree u a b. others tree u a b), c.move_seg.ensures.spare, c.push_note-2.ensures.len, c.push_note-2.ensures.capacity)

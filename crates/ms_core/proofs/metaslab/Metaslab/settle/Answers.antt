@@ -6,6 +6,7 @@ use Rattle.ms_core.specs.Kept.{book_in, origin_in}
 use Rattle.ms_core.proofs.Mirroring.{settle_apart}
 use Rattle.ms_core.proofs.Counted.{deferred_settle, size_units}
 use Rattle.ms_core.proofs.Keeping.{kept_settle}
+use Rattle.ms_core.proofs.Sparing.{waiting_settle}
 use Rattle.ms_core.proofs.metaslab.Metaslab.settle.Goals as goal
 
 pub overflow_sub-self : goal.overflow_sub-self
@@ -38,5 +39,16 @@ invariant_of-self g c =
       kept =
           kept_settle set (g.R.SegTrees.set c.settle_trees.new.trees) (book_in m) k c.push_note.new.notes.items c.args.lane c.args.group c.units.result c.push_note.ensures.items
           (omega (arith, k.settled)) (omega (arith, k.collected)) c.settle_trees.ensures.moves gone;
+      waiting = omega (arith, c.self.invariant.waiting, c.settle_trees.ensures.spare, waiting_settle m.loaded set (g.R.SegTrees.set c.settle_trees.new.trees) c.args.group.0 c.settle_trees.ensures.moves);
       room = omega (arith, c.self.invariant.room, c.push_note.ensures.len, c.push_note.ensures.capacity);
     }
+
+pub returns-clause-room : goal.returns-clause-room
+returns-clause-room g c =
+    let m = c.self.inside in
+    let k = c.self.invariant.kept in
+    let set = g.R.SegTrees.set m.trees in
+    let next = subst (λ (s : MsState). c.args.group.0 ≡ settled_of s + 1) (sym c.self.view_is) c.requires.group in
+    let within = subst (λ (s : MsState). c.args.group.0 ≤ collected_of s) (sym c.self.view_is) c.requires.collected in
+    let same = ap (λ (s : MsState). s.room) c.self.view_is in
+    omega (arith, same, k.order, c.self.invariant.room, c.self.invariant.waiting, waiting_settle m.loaded set (g.R.SegTrees.set c.settle_trees.new.trees) c.args.group.0 c.settle_trees.ensures.moves, c.settle_trees.ensures.spare, c.push_note.ensures.len, c.push_note.ensures.capacity, next, within, k.settled, k.collected)
