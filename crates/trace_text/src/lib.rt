@@ -2,7 +2,8 @@
 //!
 //! To the layer above it promises that `write_trace` hands exactly this text (`specs/Traces.antt`) to a sink, or a front
 //! of it where the sink failed, and that the texts of different journals differ (`laws`), so that who has a trace has
-//! the journals. Nothing here takes memory.
+//! the journals. `write_pieces`, by which texts are handed to a sink piece by piece, serves other texts too. Nothing
+//! here takes memory.
 #![tactic(auto)]
 
 mod classes;
@@ -14,4 +15,5 @@ mod tests;
 mod traces;
 
 pub use metaslabs::write_metaslab_trace;
+pub use pieces::{Piece, write_pieces};
 pub use traces::write_trace;

@@ -53,7 +53,8 @@ fn write_piece<T: Sink>(trace: &mut T, piece: &Piece<'_>) -> Result<(), Failed>
     }
 }
 
-/// Writes one piece behind the other.
+/// Writes one piece behind the other, and stops at the first that the sink doesn't take whole. Takes no memory. Linear in
+/// the bytes.
 pub fn write_pieces<T: Sink>(trace: &mut T, pieces: &[Piece<'_>]) -> Result<(), Failed>
     ensures { Prints (T.taken trace.old) (T.taken trace.new) (T.faults trace.old) (T.faults trace.new) (flat_map piece_text pieces.now) result }
 {

@@ -19,7 +19,7 @@ use std::alloc::Global;
 use std::env;
 use std::io::ErrorKind;
 use std::process::ExitCode;
-use streams::{StdinSource, StdoutSink};
+use streams::{FileSink, StdinSource, StdoutSink};
 use zms_dev::{Failed, NoMeet};
 use zms_top::{Shipped, Status, pool_name, zms};
 
@@ -55,7 +55,16 @@ fn open(alloc: Global, rt: HostRuntime) -> Result<Call, Status> {
     }
 }
 
-/// How the program ends once the rest of what was to be printed is written.
+/// Writes what the buffers hold: first what was printed, then the trace.
+fn write_rest(out: &mut StdoutSink, trace: &mut FileSink) -> Result<(), Failed>
+    ensures printed { OnOk result (out.new.faults.count ≡ out.old.faults.count) }
+    ensures traced { OnOk result (trace.new.faults.count ≡ trace.old.faults.count) }
+{
+    out.flush()?;
+    trace.flush()
+}
+
+/// How the program ends once the rest of what was to be printed and traced is written.
 fn after_printing(status: Status, printed: Result<(), Failed>) -> Status
     ensures same { OnOk printed (result ≡ status) }
     ensures earlier { OnErr printed (status ≢ Status.Done → result ≡ status) }
@@ -92,7 +101,7 @@ fn main(rt: HostRuntime) -> ExitCode {
                 journals: _,
                 lists: _,
             } = shipped;
-            after_printing(status, out.flush())
+            after_printing(status, write_rest(&mut out, &mut trace))
         }
         Err(status) => status,
     };

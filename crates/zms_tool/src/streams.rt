@@ -1,12 +1,12 @@
 //! Standard input and output, and a file that is written from its start.
-ghost use Rattle.std.specs.Prelude.{◌≡◌, ◌≤◌, length, IfOk};
+ghost use Rattle.std.specs.Prelude.{◌≡◌, ◌≤◌, true, length, IfOk, OnOk, OnErr, IsErr};
 ghost use Rattle.zms_dev.specs.Causes.{HasCause};
 
 use crate::faults::Faults;
 use std::alloc::{AllocError, Global};
 use std::fs::File;
 use std::io;
-use std::io::{BufWriter, ErrorKind, Read, Write};
+use std::io::{BufWriter, ErrorKind, LineWriter, Read, Write};
 use zms_dev::{Failed, Sink, Source};
 
 /// Standard input. It does not tell the bytes that it has left.
@@ -39,10 +39,54 @@ impl Source for StdinSource {
     }
 }
 
-/// Standard output through a buffer. It does not tell the bytes that it has taken.
+/// A writer that fails for good with its first failure, so that nothing is written behind what was lost.
+#[derive(Drop)]
+struct FailStop<W> {
+    inner: W,
+    has_failed: bool,
+}
+
+impl<W> FailStop<W> {
+    fn new(inner: W) -> Self {
+        FailStop {
+            inner,
+            has_failed: false,
+        }
+    }
+}
+
+impl<W: Write> Write for FailStop<W> {
+    fn write(&mut self, bytes: &[u8]) -> io::Result<usize>
+        ensures bound { IfOk result (λ n. n ≤ length bytes.now) }
+        ensures fails { OnErr result (self.new.has_failed ≡ true) }
+        ensures stops { self.old.has_failed ≡ true → (self.new ≡ self.old) × IsErr result }
+    {
+        if self.has_failed {
+            return Err(ErrorKind::BrokenPipe.into());
+        }
+        let taken = write_some(&mut self.inner, bytes);
+        self.has_failed = taken.is_err();
+        taken
+    }
+
+    fn flush(&mut self) -> io::Result<()>
+        ensures fails { OnErr result (self.new.has_failed ≡ true) }
+        ensures stops { self.old.has_failed ≡ true → (self.new ≡ self.old) × IsErr result }
+    {
+        if self.has_failed {
+            return Err(ErrorKind::BrokenPipe.into());
+        }
+        let flushed = self.inner.flush();
+        self.has_failed = flushed.is_err();
+        flushed
+    }
+}
+
+/// Standard output through a buffer, which is written out at each line's end. After a write that failed nothing more is
+/// written. It does not tell the bytes that it has taken.
 #[derive(Drop)]
 pub struct StdoutSink {
-    out: BufWriter<std::rt::Stdout>,
+    out: LineWriter<FailStop<std::rt::Stdout>>,
     faults: Faults,
 }
 
@@ -51,7 +95,7 @@ impl StdoutSink {
     pub fn new(alloc: Global, rt: HostRuntime) -> Result<Self, AllocError>
         ensures { IfOk result (λ s. s.faults.count ≡ 0) }
     {
-        match BufWriter::new(alloc, rt.stdout()) {
+        match LineWriter::new(alloc, FailStop::new(rt.stdout())) {
             Ok(out) => Ok(StdoutSink {
                 out,
                 faults: Faults::NONE,
@@ -60,9 +104,10 @@ impl StdoutSink {
         }
     }
 
-    /// Writes what the buffer holds.
+    /// Writes what the buffer holds: the start of a line that has not ended.
     pub fn flush(&mut self) -> Result<(), Failed>
-        ensures { HasCause self.old.faults.count self.new.faults.count result }
+        ensures ok { OnOk result (self.new.faults.count ≡ self.old.faults.count) }
+        ensures cause { HasCause self.old.faults.count self.new.faults.count result }
     {
         self.faults.noted(self.out.flush())
     }
@@ -80,12 +125,13 @@ impl Sink for StdoutSink {
     }
 }
 
-/// A file that is made, or written anew, when the first byte is written. It does not tell the bytes that it has taken.
+/// A file that is made, or written anew, when it takes the first byte, and is written through a buffer. After a write that
+/// failed nothing more is written. It does not tell the bytes that it has taken.
 #[derive(Drop)]
 pub struct FileSink {
     rt: HostRuntime,
     path: String,
-    file: Option<File>,
+    out: Option<BufWriter<FailStop<File>>>,
     faults: Faults,
 }
 
@@ -96,9 +142,32 @@ impl FileSink {
         FileSink {
             rt,
             path,
-            file: None,
+            out: None,
             faults: Faults::NONE,
         }
+    }
+
+    /// Writes what the buffer holds. Where nothing was taken, no file is made.
+    pub fn flush(&mut self) -> Result<(), Failed>
+        ensures ok { OnOk result (self.new.faults.count ≡ self.old.faults.count) }
+        ensures cause { HasCause self.old.faults.count self.new.faults.count result }
+    {
+        match &mut self.out {
+            Some(out) => self.faults.noted(out.flush()),
+            None => Ok(()),
+        }
+    }
+
+    // Makes the file, and takes the memory of its buffer: want of memory is a failure like any other. It is not tried again
+    // after a failure.
+    fn open(&mut self) -> io::Result<()>
+        ensures { self.new.faults ≡ self.old.faults }
+    {
+        if self.out.is_none() && self.faults.count == 0 {
+            let file = File::create(&self.rt, self.path.as_str())?;
+            self.out = Some(BufWriter::new(self.rt.alloc(), FailStop::new(file))?);
+        }
+        Ok(())
     }
 
     fn put(&mut self, bytes: &[u8]) -> io::Result<usize>
@@ -109,11 +178,9 @@ impl FileSink {
         if bytes.is_empty() {
             return Ok(0);
         }
-        if self.file.is_none() {
-            self.file = Some(File::create(&self.rt, self.path.as_str())?);
-        }
-        match &mut self.file {
-            Some(file) => write_some(file, bytes),
+        self.open()?;
+        match &mut self.out {
+            Some(out) => write_some(out, bytes),
             None => Err(ErrorKind::NotFound.into()),
         }
     }

@@ -1,5 +1,6 @@
 // The forms over real files, each call once.
 use crate::files::PoolFiles;
+use crate::streams::FileSink;
 use std::alloc::Global;
 use std::fs;
 use std::test::Fail;
@@ -25,6 +26,7 @@ fn a_file_is_made_when_it_is_written(rt: HostRuntime) -> Result<(), Fail> {
     meta.write(3, &[])?;
     meta.flush()?;
     trace.write(b"")?;
+    trace.flush()?;
     for mut device in devices {
         device.discard(0, 8)?;
         assert_eq!(rt; device.faults(), 0);
@@ -38,6 +40,7 @@ fn a_file_is_made_when_it_is_written(rt: HostRuntime) -> Result<(), Fail> {
     assert_eq!(rt; meta.size()?, 5);
     assert_eq!(rt; meta.faults(), 0);
     assert_eq!(rt; trace.write(b"end")?, 3);
+    trace.flush()?;
     assert_eq!(rt;
         fs::read(&rt, "zms_tool_written/p.meta")?.as_slice(),
         b"\0\0\0ab".as_slice()
@@ -76,5 +79,41 @@ fn what_the_system_refuses_is_a_fault(rt: HostRuntime) -> Result<(), Fail> {
         assert_eq!(rt; device.write(0, &[1]), Err(Failed));
         assert_eq!(rt; device.faults(), 1);
     }
+    fs::create_dir(&rt, "zms_tool_refused")?;
+    assert_eq!(rt; files.trace.write(b"end"), Err(Failed));
+    assert_eq!(rt; files.trace.flush(), Ok(()));
+    assert_eq!(rt; fs::read_dir(&rt, "zms_tool_refused")?.count(), 0);
+    fs::remove_dir(&rt, "zms_tool_refused")?;
+    Ok(())
+}
+
+#[test]
+fn a_trace_is_written_anew_through_a_buffer(rt: HostRuntime) -> Result<(), Fail> {
+    let mut trace = fresh_files(&rt, rt.alloc(), "zms_tool_anew")?.trace;
+    let path = "zms_tool_anew/p.trace";
+    fs::write(&rt, path, "an earlier trace")?;
+    trace.flush()?;
+    assert_eq!(rt;
+        fs::read(&rt, path)?.as_slice(),
+        b"an earlier trace".as_slice()
+    );
+    assert_eq!(rt; trace.write(b"new")?, 3);
+    assert_eq!(rt; fs::read(&rt, path)?.as_slice(), b"".as_slice());
+    let long = [b'x'; 9000];
+    assert_eq!(rt; trace.write(&long)?, 9000);
+    trace.flush()?;
+    let found = fs::read(&rt, path)?;
+    assert_eq!(rt; found.len(), 9003);
+    assert_eq!(rt; &found[..4], b"newx".as_slice());
+    fs::remove_dir_all(&rt, "zms_tool_anew")?;
+    Ok(())
+}
+
+#[test]
+fn a_lost_trace_is_a_fault_of_its_flush(rt: HostRuntime) -> Result<(), Fail> {
+    let mut trace = FileSink::new(rt, String::from_str(rt.alloc(), "/dev/full")?);
+    assert_eq!(rt; trace.write(b"end")?, 3);
+    assert_eq!(rt; trace.flush(), Err(Failed));
+    assert_eq!(rt; trace.flush(), Err(Failed));
     Ok(())
 }

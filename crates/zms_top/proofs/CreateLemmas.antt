@@ -1,11 +1,12 @@
 -- A pool that is created.
-use Rattle.std.proofs.Common.{◌≡◌, ℕ, ◌*◌, ◌<◌, ◌≤◌, false, Option, List, refl, ◌∙◌, subst, inl, inr, lit<, arith}
+use Rattle.std.proofs.Common.{◌≡◌, ℕ, ◌*◌, ◌<◌, ◌≤◌, false, List, refl, ◌∙◌, subst, inl, inr, lit<, arith}
 use Rattle.std.specs.Prelude.{◌⊎◌}
 use Rattle.std.proofs.lemmas.Bool.{cases_lt}
 use Rattle.zms_dev.specs.Causes.{Rose}
 use Rattle.zms_dev.specs.Disk.{DiskState, Tells, bytes_of}
 use Rattle.zms_dev.specs.Runs.{Untouched}
 use Rattle.zms_top.specs.Record.{is_set, bit_bytes, IsRecord, IsStored, HasNoRecord}
+use Rattle.zms_top.specs.Reporting.{SinkState}
 use Rattle.zms_top.specs.Ends.{IsEmptyRecord, IsUnwritten, WritesNew, CreateEnds}
 use Rattle.zms_top.specs.declared.status.Status.{Status}
 
@@ -35,14 +36,14 @@ rose_from : (a b c : ℕ) → a ≤ b → Rose b c → Rose a c
 rose_from a b c le rose = omega (arith, le, rose)
 
 -- a creation is a writing behind a reading that found nothing
-pub create_ends : (units : ℕ) (before now : Option (List ℕ)) (sink_low sink_high : ℕ) (start mid end : DiskState) (low between high : ℕ) (status : Status)
+pub create_ends : (units : ℕ) (out out_now : SinkState) (start mid end : DiskState) (low between high : ℕ) (status : Status)
     → (Tells start → HasNoRecord (bytes_of start)) → (Tells start → IsUnwritten start mid) → low ≤ between
-    → WritesNew units before now sink_low sink_high mid end between high status → CreateEnds units before now sink_low sink_high start end low high status
-create_ends units before now sink_low sink_high start mid end low between high _ none quiet le (WritesNew.device rose out) = CreateEnds.device (rose_from low between high le rose) out
-create_ends units before now sink_low sink_high start mid end low between high _ none quiet le (WritesNew.memory still out) =
+    → WritesNew units out out_now mid end between high status → CreateEnds units out out_now start end low high status
+create_ends units out out_now start mid end low between high _ none quiet le (WritesNew.device rose same) = CreateEnds.device (rose_from low between high le rose) same
+create_ends units out out_now start mid end low between high _ none quiet le (WritesNew.memory still same) =
     CreateEnds.memory
     (λ tells. let first = quiet tells in let then = still first.tells in
     record { tells = then.tells; same = then.same ∙ first.same; unchanged = λ c may. first.unchanged c (then.unchanged c may) })
-    out
-create_ends units before now sink_low sink_high start mid end low between high _ none quiet le (WritesNew.written holds printed prints) =
+    same
+create_ends units out out_now start mid end low between high _ none quiet le (WritesNew.written holds printed prints) =
     CreateEnds.created none (λ tells. holds (quiet tells).tells) printed prints

@@ -24,11 +24,12 @@ use Rattle.zms_top.specs.Acting.{IsKept}
 use Rattle.zms_top.specs.Running.{HasRun, answers_of}
 use Rattle.zms_top.specs.Opening.{IsFresh}
 use Rattle.zms_top.specs.Ends.{any_device, is_device, IsOrigin, AreShipped, LanesDid, IsUnwritten, RunEnds, text_of}
-use Rattle.zms_top.specs.Shipping.{HandsOver, LanesEnd, Reports}
+use Rattle.zms_top.specs.Reporting.{SinkState}
+use Rattle.zms_top.specs.Shipping.{HandsOver, LanesEnd, IsReported}
 use Rattle.zms_top.specs.declared.pool.Pool.{Pool}
 use Rattle.zms_top.specs.declared.script.Command.{Command}
 use Rattle.zms_top.specs.declared.replies.Answer.{Answer}
-use Rattle.zms_top.specs.declared.replies.Answer.TheVariants.{Granted, NoSpace, BadSize, Done, Device, Suspended}
+use Rattle.zms_top.specs.declared.replies.Answer.TheVariants.{Granted, NoSpace, BadSize, Done, NoName, NotLive, Device, Suspended}
 use Rattle.zms_top.specs.declared.replies.Reply.{Reply}
 use Rattle.zms_top.specs.declared.status.RunLists.{RunLists}
 use Rattle.zms_top.specs.declared.status.Status.{Status}
@@ -67,6 +68,8 @@ not_device (Granted _ _) e = refl
 not_device (NoSpace _) e = refl
 not_device BadSize e = refl
 not_device (Done _) e = refl
+not_device NoName e = refl
+not_device (NotLive _ _) e = refl
 not_device (Device _ _) e = cc
 not_device (Suspended _) e = refl
 
@@ -98,12 +101,14 @@ only_journal es n zero h follows e = subst (λ l. Follows right_of 1 [] (metasla
 only_journal es n (suc k) h follows e = cc
 
 -- the facts of a whole run, over what is shipped
-pub lanes_did : (p q : Pool) (commands : List Command) (replies : List Reply) (j : Journals) (l : RunLists) (before now : Option (List ℕ)) (sink_low sink_high : ℕ) (start end : DiskState) (low high : ℕ) (status : Status)
+pub lanes_did : (p q : Pool) (commands : List Command) (replies : List Reply) (journals : Option Journals) (lists : Option RunLists) (out out_now trace trace_now : SinkState)
+    (start end : DiskState) (low high : ℕ) (status : Status)
     → IsFresh p → StaysButNotes p.metaslab q.metaslab → length replies ≡ length commands → HasRun p q (paired commands replies) → AreIntervals low high (answers_of replies)
     → (Tells start → q.first ≡ None → IsKept (origin_of p.metaslab) p.metaslab.notes q.metaslab.notes start end)
-    → Reports q (paired commands replies) replies before now sink_low sink_high status → (handed : HandsOver q replies j l)
-    → LanesDid commands before now sink_low sink_high start end low high (origin_of p.metaslab) handed.journal l status
-lanes_did p q commands replies j l before now sink_low sink_high start end low high status fresh stays each run intervals kept report handed =
+    → (report : IsReported q (paired commands replies) replies out out_now trace trace_now status journals lists)
+    → LanesDid commands out out_now trace trace_now start end low high (origin_of p.metaslab) report.handed.journal report.some_journals report.some_lists status
+lanes_did p q commands replies journals lists out out_now trace trace_now start end low high status fresh stays each run intervals kept report =
+    let handed = report.handed in
     let o : Origin = origin_of p.metaslab in
     let origin : origin_of q.metaslab ≡ o = ap origin_of stays in
     let settled : settled_of q.metaslab ≡ settled_group o handed.journal.notes = ap (λ (x : Origin). settled_group x q.metaslab.notes) origin ∙ ap (settled_group o) (sym handed.notes) in
@@ -128,8 +133,8 @@ lanes_did p q commands replies j l before now sink_low sink_high start end low h
       };
       group = report.group;
       group_is = report.group_is ∙ settled;
-      printed = report.printed;
-      prints = rw handed.replies_are report.prints;
+      written = report.written;
+      writes = rw handed.replies_are report.writes;
       status_is = rw handed.replies_are report.status_is;
       device = λ none tells.
           let idle : q.first ≡ None = sym run.fault ∙ no_first commands replies (sym each) (rw handed.replies_are at none) in
@@ -146,14 +151,14 @@ recorded_from start mid now o h quiet recorded = record {
 }
 
 -- a run is what its lanes were, behind a reading of the text and of the device
-pub run_ends : (left before now : Option (List ℕ)) (source_low source_high sink_low sink_high : ℕ) (start mid end : DiskState) (low between high : ℕ) (o : Origin) (commands : List Command)
+pub run_ends : (left : Option (List ℕ)) (source_low source_high : ℕ) (out out_now trace trace_now : SinkState) (start mid end : DiskState) (low between high : ℕ) (o : Origin) (commands : List Command)
     (status : Status) (journals : Option Journals) (lists : Option RunLists)
     → (IsSome left → IsFile (text_of left) commands) → IsOrigin start o → (Tells start → IsUnwritten start mid) → low ≤ between
-    → LanesEnd o commands before now sink_low sink_high mid end between high status journals lists
-    → RunEnds left before now source_low source_high sink_low sink_high start end low high status journals lists
-run_ends left before now source_low source_high sink_low sink_high start mid end low between high o commands status journals lists file origin quiet le (LanesEnd.cut_off journal j l shipped none is out js ls) =
-    RunEnds.cut_off commands file o journal j l origin shipped none is out js ls
-run_ends left before now source_low source_high sink_low sink_high start mid end low between high o commands status journals lists file origin quiet le (LanesEnd.ran journal j l shipped did js ls) =
+    → LanesEnd o commands out out_now trace trace_now mid end between high status journals lists
+    → RunEnds left source_low source_high out out_now trace trace_now start end low high status journals lists
+run_ends left source_low source_high out out_now trace trace_now start mid end low between high o commands status journals lists file origin quiet le (LanesEnd.cut_off journal j l shipped none is same still js ls) =
+    RunEnds.cut_off commands file o journal j l origin shipped none is same still js ls
+run_ends left source_low source_high out out_now trace trace_now start mid end low between high o commands status journals lists file origin quiet le (LanesEnd.ran journal j l shipped did js ls) =
     RunEnds.ran commands file o journal j l origin shipped
     (record {
       each = did.each;
@@ -164,8 +169,8 @@ run_ends left before now source_low source_high sink_low sink_high start mid end
       tally_is = did.tally_is;
       group = did.group;
       group_is = did.group_is;
-      printed = did.printed;
-      prints = did.prints;
+      written = did.written;
+      writes = did.writes;
       status_is = did.status_is;
       device = λ none tells. (let same = quiet tells in recorded_from start mid end o journal.notes same (did.device none same.tells));
     })

@@ -13,7 +13,7 @@ use Rattle.std.proofs.lemmas.Slice.Eq.{bytes_eq-Decides}
 use Rattle.zms_top.specs.Reading.{Lacks, IsFirstLine, has_name, gives_name, IsNext, HasNoNext}
 use Rattle.zms_top.specs.Script.{line_text, IsCommand, IsNamed, AreCommands, file_text, IsFile, BeginsWithLine, IsFirstBad}
 use Rattle.zms_top.specs.declared.script.What.{What}
-use Rattle.zms_top.specs.declared.script.What.TheVariants.{Alloc, Sync}
+use Rattle.zms_top.specs.declared.script.What.TheVariants.{Alloc, Free, Sync}
 use Rattle.zms_top.specs.declared.script.Command.{Command}
 use Rattle.zms_top.specs.declared.script.Script.{Script}
 use Rattle.zms_top.specs.declared.script.TextFault.{TextFault}
@@ -48,10 +48,12 @@ read_whole text commands rest some (inr both) = absurd (let none : rest ≡ [] =
 
 gives_named : (w : What) (name : List ℕ) → IsNamed w name → gives_name name w ≡ true
 gives_named (Alloc own _ _ _) name is = (bytes_eq-Decides name own).1 (sym is)
+gives_named (Free _) name is = absurd is
 gives_named Sync name is = absurd is
 
 named_gives : (w : What) (name : List ℕ) → gives_name name w ≡ true → IsNamed w name
 named_gives (Alloc own _ _ _) name is = sym ((bytes_eq-Decides name own).0 is)
+named_gives (Free _) name is = cc
 named_gives Sync name is = cc
 
 true_or : (a b : Bool) → a ≡ true → (a || b) ≡ true

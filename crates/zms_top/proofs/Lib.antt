@@ -1,4 +1,7 @@
+pub mod StepLemmas
 pub mod AllocSteps
+pub mod FreeSteps
+pub mod NamingLemmas
 pub mod FileLemmas
 pub mod GateLemmas
 pub mod Lines

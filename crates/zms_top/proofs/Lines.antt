@@ -12,7 +12,7 @@ use Rattle.ms_model.proofs.Lists.{all_left, all_right}
 use Rattle.zms_top.specs.Reading.{Lacks, lane_text}
 use Rattle.zms_top.specs.Script.{IsWhat, what_text, line_text, IsCommand, IsNamed, AreNamedApart, AreCommands, file_text, IsFile, BeginsWithLine, IsFirstBad}
 use Rattle.zms_top.specs.declared.script.What.{What}
-use Rattle.zms_top.specs.declared.script.What.TheVariants.{Alloc, Sync}
+use Rattle.zms_top.specs.declared.script.What.TheVariants.{Alloc, Free, Sync}
 use Rattle.zms_top.specs.declared.script.Command.{Command}
 use Rattle.zms_top.proofs.ReadingLemmas.{lacks_append, cut_once, decimal_lacks, name_lacks, alloc_text, alloc_fields, what_once}
 
@@ -23,6 +23,7 @@ line_is_lane c one = ap (λ n. decimal n ++ (32 ∷ what_text c.what)) one ∙ a
 
 what_lacks : (w : What) → IsWhat w → Lacks 10 (what_text w)
 what_lacks Sync is = refl
+what_lacks (Free name) is = lacks_append 10 (codes "free ") name refl (name_lacks 10 refl name is)
 what_lacks (Alloc name size class copies) is =
     let c : class ≡ Normal = is.1.1.0 in
     let n : copies ≡ 1 = is.1.1.1 in
@@ -36,6 +37,7 @@ line_lacks c is = subst (Lacks 10) (sym (line_is_lane c is.lane)) (what_lacks c.
 
 what_short : (w : What) → IsWhat w → length (lane_text w) ≤ 200
 what_short Sync is = omega arith
+what_short (Free name) is = omega (arith, is.short)
 what_short (Alloc name size class copies) is =
     let c : class ≡ Normal = is.1.1.0 in
     let n : copies ≡ 1 = is.1.1.1 in

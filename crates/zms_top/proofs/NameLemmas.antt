@@ -12,9 +12,9 @@ use Rattle.std.proofs.lemmas.Map.Text.{is_eq-slice_cmp}
 use Rattle.std.proofs.lemmas.Slice.Eq.{bytes_eq-Decides}
 use Rattle.zms_units.specs.declared.places.Class.TheVariants.{Normal}
 use Rattle.zms_top.specs.Reading.{has_name, lane_text, IsNext, HasNoNext}
-use Rattle.zms_top.specs.Script.{IsWhat, IsNamed}
+use Rattle.zms_top.specs.Script.{IsName, IsWhat, IsNamed}
 use Rattle.zms_top.specs.declared.script.What.{What}
-use Rattle.zms_top.specs.declared.script.What.TheVariants.{Alloc, Sync}
+use Rattle.zms_top.specs.declared.script.What.TheVariants.{Alloc, Free, Sync}
 use Rattle.zms_top.specs.declared.script.Command.{Command}
 use Rattle.zms_top.proofs.ReadingLemmas.{what_once}
 use Rattle.zms_top.proofs.Lines.{line_is_lane, command_of}
@@ -86,6 +86,18 @@ next_sync names line number made =
       text = line_is_lane c refl ∙ made;
       numbered = refl;
       fresh = λ name named. absurd named;
+      known = λ other. refl;
+    }
+
+pub next_free : (names : BTreeSet (Bor (List ℕ))) (line name : List ℕ) (number : ℕ) → IsName name → lane_text (Free name) ≡ line
+    → IsNext names names line number (record { lane = 1; line = number; what = Free name })
+next_free names line name number is_name made =
+    let c : Command = record { lane = 1; line = number; what = Free name } in
+    record {
+      is = command_of c refl is_name;
+      text = line_is_lane c refl ∙ made;
+      numbered = refl;
+      fresh = λ other named. absurd named;
       known = λ other. refl;
     }
 

@@ -4,7 +4,7 @@ use Rattle.std.specs.List.{flat_map}
 use Rattle.std.proofs.lemmas.List.{take-append-drop}
 use Rattle.std.proofs.lemmas.Grind.{flat_map-append}
 use Rattle.zms_top.specs.Texts.{reply_text}
-use Rattle.zms_top.proofs.PrintLemmas.{flat_map-more}
+use Rattle.trace_text.proofs.Printing.{flat_map-more}
 use Rattle.zms_top.specs.Answers.{Replied, paired}
 use Rattle.zms_top.specs.declared.script.Command.{Command}
 use Rattle.zms_top.specs.declared.replies.Reply.{Reply}

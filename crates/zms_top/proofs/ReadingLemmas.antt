@@ -20,7 +20,7 @@ use Rattle.zms_top.specs.Words.{is_digit}
 use Rattle.zms_top.specs.Script.{is_name_byte, IsName, IsWhat, what_text}
 use Rattle.zms_units.specs.declared.places.Class.TheVariants.{Normal}
 use Rattle.zms_top.specs.declared.script.What.{What}
-use Rattle.zms_top.specs.declared.script.What.TheVariants.{Alloc, Sync}
+use Rattle.zms_top.specs.declared.script.What.TheVariants.{Alloc, Free, Sync}
 
 -- bytes that a text lacks
 
@@ -95,6 +95,9 @@ name_lacks b no_pass name is = lacks_by is_name_byte b no_pass name is.bytes
 
 -- what stands behind a lane's number
 
+pub text_behind : (line what head behind : List ℕ) (w : What) → lane_text w ≡ line → codes "1 " ++ what ≡ line → head ++ behind ≡ what → what_text w ≡ head ++ behind
+text_behind line what head behind w text one rest = append_cancel_left (codes "1 ") _ _ (text ∙ sym one) ∙ sym rest
+
 -- behind `alloc `
 abbrev pub alloc_fields : List ℕ → ℕ → List ℕ
 alloc_fields name size = name ++ (32 ∷ (decimal size ++ (32 ∷ codes "normal 1")))
@@ -110,21 +113,26 @@ pub record AllocParts (behind : List ℕ) : Type 0 where
   pub fits : size < 2 ^ 63
   pub whole : alloc_fields name size ≡ behind
 
-pub alloc_parts : (line what behind : List ℕ) (w : What) → IsWhat w → lane_text w ≡ line → codes "1 " ++ what ≡ line
-    → (what ≡ codes "sync" → ⊥) → codes "alloc " ++ behind ≡ what → AllocParts behind
-alloc_parts line what behind Sync is text one no_sync rest = absurd (no_sync (append_cancel_left (codes "1 ") _ _ (one ∙ sym text)))
-alloc_parts line what behind (Alloc name size class copies) is text one no_sync rest =
+pub alloc_parts : (behind : List ℕ) (w : What) → IsWhat w → what_text w ≡ codes "alloc " ++ behind → AllocParts behind
+alloc_parts behind Sync is text = cc
+alloc_parts behind (Free name) is text = absurd (omega (arith, ap (λ l. get_or l 0 0) text))
+alloc_parts behind (Alloc name size class copies) is text =
     let c : class ≡ Normal = is.1.1.0 in
     let n : copies ≡ 1 = is.1.1.1 in
     let fields : what_text (Alloc name size class copies) ≡ codes "alloc " ++ alloc_fields name size = rw c (rw n (alloc_text name size)) in
-    let all : what_text (Alloc name size class copies) ≡ what = append_cancel_left (codes "1 ") _ _ (text ∙ sym one) in
     record {
       name = name;
       size = size;
       is_name = is.0;
       fits = is.1.0;
-      whole = append_cancel_left (codes "alloc ") _ _ (sym fields ∙ all ∙ sym rest);
+      whole = append_cancel_left (codes "alloc ") _ _ (sym fields ∙ text);
     }
+
+-- what stands behind `free ` is a name
+pub free_name : (behind : List ℕ) (w : What) → IsWhat w → what_text w ≡ codes "free " ++ behind → IsName behind
+free_name behind Sync is text = cc
+free_name behind (Free name) is text = subst IsName (append_cancel_left (codes "free ") name behind text) is
+free_name behind (Alloc name size class copies) is text = absurd (omega (arith, ap (λ l. get_or l 0 0) text))
 
 -- cut at its first space it is the name, and cut there again the size
 pub second_part : (behind name rest : List ℕ) (p : AllocParts behind) → name ++ (32 ∷ rest) ≡ behind → Lacks 32 name
@@ -186,8 +194,13 @@ fields_once name name' size size' is is' fits fits' e =
 -- what a line asks for is told by its text
 pub what_once : (v w : What) → IsWhat v → IsWhat w → lane_text v ≡ lane_text w → v ≡ w
 what_once Sync Sync is is' e = refl
+what_once Sync (Free name) is is' e = cc
 what_once Sync (Alloc name size class copies) is is' e = cc
+what_once (Free name) Sync is is' e = cc
+what_once (Free name) (Free name') is is' e = ap Free (append_cancel_left (codes "1 free ") name name' e)
+what_once (Free name) (Alloc name' size class copies) is is' e = absurd (omega (arith, ap (λ l. get_or l 2 0) e))
 what_once (Alloc name size class copies) Sync is is' e = cc
+what_once (Alloc name size class copies) (Free name') is is' e = absurd (omega (arith, ap (λ l. get_or l 2 0) e))
 what_once (Alloc name size class copies) (Alloc name' size' class' copies') is is' e =
     let c : class ≡ Normal = is.1.1.0 in
     let c' : class' ≡ Normal = is'.1.1.0 in

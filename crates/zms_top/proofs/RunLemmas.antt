@@ -1,5 +1,5 @@
 -- Commands one behind the other.
-use Rattle.std.proofs.Common.{◌≡◌, ℕ, ◌+◌, ◌<◌, ◌≤◌, Option, Some, None, List, [], ◌∷◌, ◌++◌, length, take, get_or, refl, sym, ◌∙◌, ap, subst, add-one, arith}
+use Rattle.std.proofs.Common.{◌≡◌, ℕ, ◌+◌, ◌<◌, ◌≤◌, false, Option, Some, None, List, [], ◌∷◌, ◌++◌, length, take, get_or, refl, sym, ◌∙◌, ap, subst, add-one, arith}
 use Rattle.std.specs.Prelude.{◌⊎◌}
 use Rattle.std.proofs.Common.{inl, inr}
 use Rattle.std.proofs.lemmas.List.{length-append, length-take-le}
@@ -16,15 +16,16 @@ use Rattle.ms_model.specs.declared.notes.GateNote.{GateNote}
 use Rattle.ms_model.proofs.Steps.{follows_both, follows_none, gate_steps-append, metaslab_steps-append}
 use Rattle.ms_core.specs.State.{origin_of}
 use Rattle.zms_dev.specs.Disk.{DiskState, Tells}
-use Rattle.zms_top.specs.Answers.{Replied, paired, first_with, IsOfAlloc}
+use Rattle.zms_top.specs.Answers.{Replied, paired, first_with, IsOfAlloc, IsOfFree}
 use Rattle.zms_top.specs.Sound.{Tour, ground_of, HoldsGroup}
 use Rattle.zms_top.specs.Backing.{Lines, WhatLine, AreIntervals}
 use Rattle.zms_top.specs.Acting.{Acted, IsPool, IsKept, LeavesSettled}
 use Rattle.zms_top.specs.Running.{HasRun, answers_of}
+use Rattle.zms_top.specs.Ends.{is_device}
 use Rattle.zms_top.specs.declared.script.Command.{Command}
 use Rattle.zms_top.specs.declared.pool.Pool.{Pool}
 use Rattle.zms_top.specs.declared.replies.Answer.{Answer}
-use Rattle.zms_top.specs.declared.replies.Answer.TheVariants.{Granted, NoSpace, BadSize, Done, Device, Suspended}
+use Rattle.zms_top.specs.declared.replies.Answer.TheVariants.{Granted, NoSpace, BadSize, Done, NoName, NotLive, Device, Suspended}
 use Rattle.zms_top.specs.declared.replies.Reply.{Reply}
 use Rattle.zms_top.proofs.SyncSteps.{stays_both}
 
@@ -43,6 +44,8 @@ widen low mid high (Granted _ _ ∷ rest) le is = widen low mid high rest le is
 widen low mid high (NoSpace _ ∷ rest) le is = widen low mid high rest le is
 widen low mid high (BadSize ∷ rest) le is = widen low mid high rest le is
 widen low mid high (Done _ ∷ rest) le is = widen low mid high rest le is
+widen low mid high (NoName ∷ rest) le is = widen low mid high rest le is
+widen low mid high (NotLive _ _ ∷ rest) le is = widen low mid high rest le is
 widen low mid high (Suspended _ ∷ rest) le is = widen low mid high rest le is
 
 pub intervals_push : (low mid high : ℕ) (xs : List Answer) (a : Answer) → AreIntervals low mid xs → AreIntervals mid high (a ∷ []) → AreIntervals low high (xs ++ a ∷ [])
@@ -52,30 +55,56 @@ intervals_push low mid high (Granted _ _ ∷ rest) a is then = intervals_push lo
 intervals_push low mid high (NoSpace _ ∷ rest) a is then = intervals_push low mid high rest a is then
 intervals_push low mid high (BadSize ∷ rest) a is then = intervals_push low mid high rest a is then
 intervals_push low mid high (Done _ ∷ rest) a is then = intervals_push low mid high rest a is then
+intervals_push low mid high (NoName ∷ rest) a is then = intervals_push low mid high rest a is then
+intervals_push low mid high (NotLive _ _ ∷ rest) a is then = intervals_push low mid high rest a is then
 intervals_push low mid high (Suspended _ ∷ rest) a is then = intervals_push low mid high rest a is then
 
--- an alloc names no fault
+-- an alloc and a free name no fault
 
-pub alloc_first : (first now : Option First) (a : Answer) → IsOfAlloc a → now ≡ first → now ≡ first_with first a
-alloc_first (Some f) now a is e = e
-alloc_first None now (Granted _ _) is e = e
-alloc_first None now (NoSpace _) is e = e
-alloc_first None now BadSize is e = e
-alloc_first None now (Done _) is e = absurd is
-alloc_first None now (Device _ _) is e = absurd is
-alloc_first None now (Suspended _) is e = absurd is
+pub alloc_quiet : (a : Answer) → IsOfAlloc a → is_device a ≡ false
+alloc_quiet (Granted _ _) is = refl
+alloc_quiet (NoSpace _) is = refl
+alloc_quiet BadSize is = refl
+alloc_quiet (Done _) is = absurd is
+alloc_quiet NoName is = absurd is
+alloc_quiet (NotLive _ _) is = absurd is
+alloc_quiet (Device _ _) is = absurd is
+alloc_quiet (Suspended _) is = absurd is
 
-pub alloc_intervals : (low : ℕ) (a : Answer) → IsOfAlloc a → AreIntervals low low (a ∷ [])
-alloc_intervals low (Granted _ _) is = omega arith
-alloc_intervals low (NoSpace _) is = omega arith
-alloc_intervals low BadSize is = omega arith
-alloc_intervals low (Done _) is = absurd is
-alloc_intervals low (Device _ _) is = absurd is
-alloc_intervals low (Suspended _) is = absurd is
+pub free_quiet : (a : Answer) → IsOfFree a → is_device a ≡ false
+free_quiet (Done _) is = refl
+free_quiet NoName is = refl
+free_quiet (NotLive _ _) is = refl
+free_quiet (Granted _ _) is = absurd is
+free_quiet (NoSpace _) is = absurd is
+free_quiet BadSize is = absurd is
+free_quiet (Device _ _) is = absurd is
+free_quiet (Suspended _) is = absurd is
 
--- the device under an alloc
-pub alloc_kept : (p q : Pool) (disk : DiskState) → LeavesSettled p q → Tells disk → IsKept (origin_of p.metaslab) p.metaslab.notes q.metaslab.notes disk disk
-alloc_kept p q disk leaves tells = record {
+pub quiet_first : (first now : Option First) (a : Answer) → is_device a ≡ false → now ≡ first → now ≡ first_with first a
+quiet_first (Some f) now a is e = e
+quiet_first None now (Granted _ _) is e = e
+quiet_first None now (NoSpace _) is e = e
+quiet_first None now BadSize is e = e
+quiet_first None now (Done _) is e = e
+quiet_first None now NoName is e = e
+quiet_first None now (NotLive _ _) is e = e
+quiet_first None now (Device _ _) is e = cc
+quiet_first None now (Suspended _) is e = e
+
+pub quiet_intervals : (low : ℕ) (a : Answer) → is_device a ≡ false → AreIntervals low low (a ∷ [])
+quiet_intervals low (Granted _ _) is = omega arith
+quiet_intervals low (NoSpace _) is = omega arith
+quiet_intervals low BadSize is = omega arith
+quiet_intervals low (Done _) is = omega arith
+quiet_intervals low NoName is = omega arith
+quiet_intervals low (NotLive _ _) is = omega arith
+quiet_intervals low (Device _ _) is = cc
+quiet_intervals low (Suspended _) is = omega arith
+
+-- the device under a command that leaves what is settled
+pub leaves_kept : (p q : Pool) (disk : DiskState) → LeavesSettled p q → Tells disk → IsKept (origin_of p.metaslab) p.metaslab.notes q.metaslab.notes disk disk
+leaves_kept p q disk leaves tells = record {
   tells = tells;
   rises = omega (arith, leaves.group);
   same = λ _. refl;

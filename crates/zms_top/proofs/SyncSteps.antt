@@ -35,7 +35,7 @@ use Rattle.zms_top.specs.declared.pool.Pool.{Pool}
 use Rattle.zms_top.specs.declared.replies.Answer.TheVariants.{Done, Device, Suspended}
 use Rattle.zms_top.proofs.GateLemmas.{open_group-push, synced_group-push}
 use Rattle.zms_top.proofs.Sounding.{sound_collected, sound_settled}
-use Rattle.zms_top.proofs.AllocSteps.{quiet_keeper}
+use Rattle.zms_top.proofs.StepLemmas.{quiet_keeper}
 use Rattle.zms_top.proofs.PoolLemmas.{pool_grows}
 
 -- nothing was done, and the kept fault is told

@@ -1,11 +1,15 @@
 -- A command with its reply.
-use Rattle.std.specs.Prelude.{Option, Some, None, List, [], ◌∷◌}
+use Rattle.std.specs.Prelude.{ℕ, if◌then◌else◌, Option, Some, None, List, [], ◌∷◌}
 use Rattle.std.specs.List.{fold}
+use Rattle.std.specs.Str.{bytes_eq}
+use Rattle.zms_units.specs.declared.blocks.Dva.{Dva}
 use Rattle.zms_units.specs.declared.faults.First.{First}
 use Rattle.zms_units.specs.declared.faults.First.TheVariants.{Device as FirstDevice}
 use Rattle.zms_top.specs.declared.script.Command.{Command}
+use Rattle.zms_top.specs.declared.script.What.{What}
+use Rattle.zms_top.specs.declared.script.What.TheVariants.{Alloc}
 use Rattle.zms_top.specs.declared.replies.Answer.{Answer}
-use Rattle.zms_top.specs.declared.replies.Answer.TheVariants.{Granted, NoSpace, BadSize, Device}
+use Rattle.zms_top.specs.declared.replies.Answer.TheVariants.{Granted, NoSpace, BadSize, Done, NoName, NotLive, Device}
 use Rattle.zms_top.specs.declared.replies.Reply.{Reply}
 
 pub record Replied : Type 0 where
@@ -26,9 +30,25 @@ first_with None _ = None
 abbrev pub first_fault : List Replied → Option First
 first_fault done = fold (λ so_far r. first_with so_far r.reply.answer) None done
 
+-- the copies of the block of a name, once one more command has its answer: an alloc of this name that was granted has it
+abbrev pub copies_after : List ℕ → Option (List Dva) → What → Answer → Option (List Dva)
+copies_after name so_far (Alloc given _ _ _) (Granted _ copies) = if bytes_eq given name then Some copies else so_far
+copies_after name so_far _ _ = so_far
+
+-- the copies that the lane was granted under a name, if there was such an alloc among its commands so far
+abbrev pub copies_named : List ℕ → List Replied → Option (List Dva)
+copies_named name done = fold (λ so_far r. copies_after name so_far r.command.what r.reply.answer) None done
+
 -- an answer that an alloc gives
 abbrev pub IsOfAlloc : Answer → Type 0
 IsOfAlloc (Granted _ _) = Unit {0}
 IsOfAlloc (NoSpace _) = Unit {0}
 IsOfAlloc BadSize = Unit {0}
 IsOfAlloc _ = ⊥
+
+-- an answer that a free gives
+abbrev pub IsOfFree : Answer → Type 0
+IsOfFree (Done _) = Unit {0}
+IsOfFree NoName = Unit {0}
+IsOfFree (NotLive _ _) = Unit {0}
+IsOfFree _ = ⊥

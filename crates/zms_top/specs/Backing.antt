@@ -1,6 +1,6 @@
 -- When the replies of a lane are backed by what it did: each command's part of the lane's events is as the table of
 -- replies says, and the events are all that the lane did in each journal.
-use Rattle.std.specs.Prelude.{◌≡◌, ℕ, ◌+◌, ◌*◌, ◌^◌, ◌<◌, ◌≤◌, ◌⊎◌, Option, Some, None, List, [], ◌∷◌, ◌++◌, slice_get}
+use Rattle.std.specs.Prelude.{◌≡◌, ℕ, ◌+◌, ◌*◌, ◌^◌, ◌<◌, ◌≤◌, ◌⊎◌, Bool, Option, Some, None, List, [], ◌∷◌, ◌++◌, slice_get}
 use Rattle.std.specs.List.{Contains}
 use Rattle.zms_units.specs.declared.segments.Seg.{Seg}
 use Rattle.zms_units.specs.declared.segments.Group.{Group}
@@ -8,7 +8,10 @@ use Rattle.zms_units.specs.declared.blocks.Dva.{Dva}
 use Rattle.zms_units.specs.declared.faults.First.{First}
 use Rattle.zms_units.specs.declared.places.Class.TheVariants.{Normal}
 use Rattle.zms_units.specs.Rounding.{AreUnitsOf}
-use Rattle.ms_model.specs.declared.notes.Act.TheVariants.{Grant, Miss, Settle}
+use Rattle.ms_model.specs.Origin.{Origin}
+use Rattle.ms_model.specs.Units.{last_act}
+use Rattle.ms_model.specs.Legal.{IsWithin, IsGrantedBy}
+use Rattle.ms_model.specs.declared.notes.Act.TheVariants.{Grant, Free as FreeAct, Miss, Settle}
 use Rattle.ms_model.specs.declared.notes.Noted.{Noted}
 use Rattle.ms_model.specs.declared.notes.GateNote.{GateNote}
 use Rattle.ms_model.specs.declared.notes.GateNote.TheVariants.{Closed, Settled}
@@ -16,24 +19,34 @@ use Rattle.ms_model.specs.Steps.{look, noting, Follows}
 use Rattle.ms_model.specs.Parts.{right_of, gate_right}
 use Rattle.ms_model.specs.Gates.{open_group}
 use Rattle.ms_model.specs.Events.{Event, at_gate, at_metaslab, gate_steps, metaslab_steps}
+use Rattle.ms_core.specs.Asked.{IsLowestLacking}
 use Rattle.zms_dev.specs.Causes.{Rose}
-use Rattle.zms_top.specs.Answers.{Replied, first_fault}
+use Rattle.zms_top.specs.Answers.{Replied, first_fault, copies_named}
 use Rattle.zms_top.specs.declared.script.What.{What}
-use Rattle.zms_top.specs.declared.script.What.TheVariants.{Alloc, Sync}
+use Rattle.zms_top.specs.declared.script.What.TheVariants.{Alloc, Free, Sync}
 use Rattle.zms_top.specs.declared.replies.Answer.{Answer}
-use Rattle.zms_top.specs.declared.replies.Answer.TheVariants.{Granted, NoSpace, BadSize, Done, Device, Suspended}
+use Rattle.zms_top.specs.declared.replies.Answer.TheVariants.{Granted, NoSpace, BadSize, Done, NoName, NotLive, Device, Suspended}
 
 -- what the lines need of the pool: the group at which it was opened, and its one vdev: the shift, the units of each of
--- its metaslabs, and how many metaslabs there are
+-- its metaslabs, how many metaslabs there are, and which units of each the opened group held
 pub record Ground : Type 0 where
   pub opened : ℕ
   pub ashift : ℕ
   pub units : ℕ
   pub metaslabs : ℕ
+  pub bases : ℕ → ℕ → Bool
 
--- the place of a metaslab's segment, in bytes of its vdev
+-- one of its metaslabs as it was opened
+abbrev pub origin_at : Ground → ℕ → Origin
+origin_at pool at = record { units = pool.units; ashift = pool.ashift; opened = pool.opened; base = pool.bases at }
+
+-- the place of a metaslab's unit, in bytes of its vdev
+abbrev pub offset_at : Ground → ℕ → ℕ → ℕ
+offset_at pool at unit = (at * pool.units + unit) * 2 ^ pool.ashift
+
+-- the place of a metaslab's segment
 abbrev pub dva_at : Ground → ℕ → Seg → Dva
-dva_at pool at seg = record { class = Normal; vdev = 0; offset = (at * pool.units + seg.start) * 2 ^ pool.ashift; size = seg.count * 2 ^ pool.ashift }
+dva_at pool at seg = record { class = Normal; vdev = 0; offset = offset_at pool at seg.start; size = seg.count * 2 ^ pool.ashift }
 
 -- a lane holds the open group, acts, and gives the hold back
 pub record Holding (pool : Ground) (group : ℕ) (inner es : List Event) : Type 0 where
@@ -88,6 +101,48 @@ AllocLine pool lane size (NoSpace looked) es = IsBlockSize size × IsNoSpace poo
 AllocLine pool lane size BadSize es = ((size ≡ 0) ⊎ (16777216 < size)) × (es ≡ [])
 AllocLine pool lane size _ es = ⊥
 
+-- each of these copies was freed in the group, in order
+pub data Freed (pool : Ground) (lane : ℕ) (group : Group) : List Dva → List Event → Type 0 where
+  none : Freed pool lane group [] []
+  more : (copies : List Dva) (es : List Event) (at : ℕ) (seg : Seg) (before : List Noted) → Freed pool lane group copies es
+      → at < pool.metaslabs → IsWithin pool.units seg
+      → Freed pool lane group (copies ++ (dva_at pool at seg ∷ [])) (es ++ (at_metaslab at (noting before (record { lane = lane; act = FreeAct group seg })) ∷ []))
+
+-- `done` of a free: every copy was freed in the group of the hold
+pub record IsFreed (pool : Ground) (lane : ℕ) (group : Group) (copies : List Dva) (es : List Event) : Type 0 where
+  pub inner : List Event
+  pub holding : Holding pool group.0 inner es
+  pub freed : Freed pool lane group copies inner
+
+-- `notlive`: the copies before one were freed, and of this one the lane saw the lowest unit whose last act was not a grant
+-- of a group of at most the hold's. The place where it saw this is the journal as it was then
+pub record IsNotLive (pool : Ground) (lane : ℕ) (copies : List Dva) (vdev offset : ℕ) (es : List Event) : Type 0 where
+  pub group : Group
+  pub inner : List Event
+  pub holding : Holding pool group.0 inner es
+  pub freed : List Dva
+  pub frees : List Event
+  pub freed_are : Freed pool lane group freed frees
+  pub at : ℕ
+  pub seg : Seg
+  pub rest : List Dva
+  pub inside : at < pool.metaslabs
+  pub within : IsWithin pool.units seg
+  pub copies_are : copies ≡ freed ++ (dva_at pool at seg ∷ rest)
+  pub before : List Noted
+  pub unit : ℕ
+  pub lowest : IsLowestLacking (λ u. IsGrantedBy group.0 (last_act (origin_at pool at) before u)) seg unit
+  pub vdev_is : vdev ≡ 0
+  pub offset_is : offset ≡ offset_at pool at unit
+  pub whole : inner ≡ frees ++ (at_metaslab at (look before) ∷ [])
+
+-- a free gives back what the lane was granted under the name, and nothing else; `noname` comes where there is no such grant
+abbrev pub FreeLine : Ground → ℕ → Option (List Dva) → Answer → List Event → Type 0
+FreeLine pool lane (Some copies) (Done group) es = IsFreed pool lane group copies es
+FreeLine pool lane (Some copies) (NotLive vdev offset) es = IsNotLive pool lane copies vdev offset es
+FreeLine pool lane None NoName es = es ≡ []
+FreeLine pool lane _ _ es = ⊥
+
 -- the metaslabs below a place were seen in order, each when it had settled the group
 pub data SeenSettled (group : Group) : ℕ → List Event → Type 0 where
   none : SeenSettled group 0 []
@@ -123,6 +178,7 @@ SyncLine pool lane _ _ es = ⊥
 -- the line of one command, behind the replies of the commands before it
 abbrev pub WhatLine : Ground → ℕ → List Replied → What → Answer → List Event → Type 0
 WhatLine pool lane done (Alloc _ size _ _) answer es = AllocLine pool lane size answer es
+WhatLine pool lane done (Free name) answer es = FreeLine pool lane (copies_named name done) answer es
 WhatLine pool lane done Sync answer es = SyncLine pool lane (first_fault done) answer es
 
 pub record Line (pool : Ground) (done : List Replied) (r : Replied) (es : List Event) : Type 0 where

@@ -27,32 +27,34 @@ abbrev pub HasNoPool : DiskState → Type 0
 HasNoPool start = Tells start → HasNoRecord (bytes_of start)
 
 -- why a call ends with its status
-pub data Cause (words : List (List ℕ)) (left : Option (List ℕ)) (source_low source_high sink_low sink_high : ℕ) (start : DiskState) (low high : ℕ) : Status → Type 0 where
+pub data Cause (words : List (List ℕ)) (left : Option (List ℕ)) (source_low source_high sink_low sink_high trace_low trace_high : ℕ) (start : DiskState) (low high : ℕ) : Status → Type 0 where
   -- the words are outside the grammar
-  usage : AsksNothing words → Cause words left source_low source_high sink_low sink_high start low high Usage
+  usage : AsksNothing words → Cause words left source_low source_high sink_low sink_high trace_low trace_high start low high Usage
   -- the source failed
-  read_fault : Asks words Run → Rose source_low source_high → Cause words left source_low source_high sink_low sink_high start low high ReadFault
+  read_fault : Asks words Run → Rose source_low source_high → Cause words left source_low source_high sink_low sink_high trace_low trace_high start low high ReadFault
   -- a line of the text is bad, and none before it
   bad_text : Asks words Run → (line : ℕ) → (IsSome left → IsFirstBad (text_of left) line)
-      → Cause words left source_low source_high sink_low sink_high start low high (BadText line)
+      → Cause words left source_low source_high sink_low sink_high trace_low trace_high start low high (BadText line)
   -- the device failed
-  device_fault : Rose low high → Cause words left source_low source_high sink_low sink_high start low high DeviceFault
+  device_fault : Rose low high → Cause words left source_low source_high sink_low sink_high trace_low trace_high start low high DeviceFault
   -- the sink failed
-  write_fault : Rose sink_low sink_high → Cause words left source_low source_high sink_low sink_high start low high WriteFault
+  write_fault : Rose sink_low sink_high → Cause words left source_low source_high sink_low sink_high trace_low trace_high start low high WriteFault
+  -- the trace's sink failed
+  trace_fault : Asks words Run → Rose trace_low trace_high → Cause words left source_low source_high sink_low sink_high trace_low trace_high start low high WriteFault
   -- a run over a device without a pool
-  no_slot : Asks words Run → HasFile left → HasNoPool start → Cause words left source_low source_high sink_low sink_high start low high (NotAPool (Open NoSlot))
+  no_slot : Asks words Run → HasFile left → HasNoPool start → Cause words left source_low source_high sink_low sink_high trace_low trace_high start low high (NotAPool (Open NoSlot))
   -- a creation over a device with a pool
   already : (units : ℕ) → Asks words (Create units) → (group : Group) → HasPool start group.0
-      → Cause words left source_low source_high sink_low sink_high start low high (NotAPool (AlreadyPool group))
+      → Cause words left source_low source_high sink_low sink_high trace_low trace_high start low high (NotAPool (AlreadyPool group))
   -- a run to its end
-  ran : Asks words Run → HasFile left → (group : ℕ) → HasPool start group → Cause words left source_low source_high sink_low sink_high start low high Done
+  ran : Asks words Run → HasFile left → (group : ℕ) → HasPool start group → Cause words left source_low source_high sink_low sink_high trace_low trace_high start low high Done
   -- a pool that was created
-  created : (units : ℕ) → Asks words (Create units) → HasNoPool start → Cause words left source_low source_high sink_low sink_high start low high Done
+  created : (units : ℕ) → Asks words (Create units) → HasNoPool start → Cause words left source_low source_high sink_low sink_high trace_low trace_high start low high Done
   -- want of memory, of which nothing is said
-  memory : Cause words left source_low source_high sink_low sink_high start low high Memory
+  memory : Cause words left source_low source_high sink_low sink_high trace_low trace_high start low high Memory
 
 -- a run that nothing stands in the way of: a told file of commands, a device that tells and has a pool, and no fault
-pub record IsHonestRun (words : List (List ℕ)) (left : Option (List ℕ)) (source_low source_high sink_low sink_high : ℕ) (start : DiskState) (low high : ℕ) : Type 0 where
+pub record IsHonestRun (words : List (List ℕ)) (left : Option (List ℕ)) (source_low source_high sink_low sink_high trace_low trace_high : ℕ) (start : DiskState) (low high : ℕ) : Type 0 where
   pub asks : Asks words Run
   pub told_text : IsSome left
   pub commands : List Command
@@ -63,6 +65,7 @@ pub record IsHonestRun (words : List (List ℕ)) (left : Option (List ℕ)) (sou
   pub has : HasRecord (bytes_of start) group units
   pub source : Rose source_low source_high → ⊥
   pub sink : Rose sink_low sink_high → ⊥
+  pub trace : Rose trace_low trace_high → ⊥
   pub device : Rose low high → ⊥
 
 -- a creation that nothing stands in the way of: a device that tells and has no pool, and no fault

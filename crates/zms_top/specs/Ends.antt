@@ -19,7 +19,8 @@ use Rattle.zms_top.specs.Script.{IsFile, IsFirstBad}
 use Rattle.zms_top.specs.Record.{HasRecord, HasNoRecord, is_set, bit_bytes}
 use Rattle.zms_top.specs.Answers.{paired}
 use Rattle.zms_top.specs.Texts.{run_text, created_text}
-use Rattle.zms_top.specs.Pieces.{Prints}
+use Rattle.trace_text.specs.Traces.{metaslab_trace_text}
+use Rattle.zms_top.specs.Reporting.{SinkState, PrintsTo, WritesBoth}
 use Rattle.zms_top.specs.Backing.{AreBacked, AreIntervals}
 use Rattle.zms_top.specs.Sound.{ground_of, IsRecorded}
 use Rattle.zms_top.specs.Running.{answers_of}
@@ -94,15 +95,15 @@ pub record IsEmptyRecord (image : List ℕ) (units : ℕ) : Type 0 where
   pub has : HasRecord image 4 units
   pub bits : (u : ℕ) → u < 8 * bit_bytes units → is_set image u ≡ false
 
--- the status of lanes that ran: a device fault where a reply names one, else whether all was printed
+-- the status of lanes that ran: a device fault where a reply names one, else whether all was written
 abbrev pub end_status : {T E : Type 0} → Bool → Result T E → Status
 end_status true _ = DeviceFault
 end_status false (Ok _) = Done
 end_status false (Err _) = WriteFault
 
 -- what the lanes leave where memory was there: every command has its reply, the replies are backed by the journals, the text
--- of the replies and totals was printed, and the device has what was committed
-pub record LanesDid (commands : List Command) (taken_before taken_now : Option (List ℕ)) (sink_low sink_high : ℕ) (start now : DiskState) (low high : ℕ) (o : Origin) (journal : MsJournal) (lists : RunLists) (status : Status) : Type 0 where
+-- of the replies and totals was printed, then that of the journals, and the device has what was committed
+pub record LanesDid (commands : List Command) (out out_now trace trace_now : SinkState) (start now : DiskState) (low high : ℕ) (o : Origin) (journal : MsJournal) (journals : Journals) (lists : RunLists) (status : Status) : Type 0 where
   pub each : length lists.replies ≡ length commands
   pub backed : AreBacked (ground_of o) 1 (paired commands lists.replies) lists.gate (journal.notes ∷ [])
   pub settled : synced_group o.opened lists.gate ≡ settled_group o journal.notes
@@ -111,9 +112,9 @@ pub record LanesDid (commands : List Command) (taken_before taken_now : Option (
   pub tally_is : IsTallyOf o journal tally
   pub group : Group
   pub group_is : group.0 ≡ settled_group o journal.notes
-  pub printed : Result (Unit {0}) Failed
-  pub prints : Prints taken_before taken_now sink_low sink_high (run_text (paired commands lists.replies) (tally ∷ []) group.0) printed
-  pub status_is : status ≡ end_status (any_device lists.replies) printed
+  pub written : Result (Unit {0}) Failed
+  pub writes : WritesBoth out out_now trace trace_now (run_text (paired commands lists.replies) (tally ∷ []) group.0) (metaslab_trace_text journals) written
+  pub status_is : status ≡ end_status (any_device lists.replies) written
   pub device : any_device lists.replies ≡ false → Tells start → IsRecorded start now o journal.notes
 
 -- the device was not written
@@ -123,38 +124,38 @@ pub record IsUnwritten (start now : DiskState) : Type 0 where
   pub unchanged : (c : List ℕ) → now.may_leave c → start.may_leave c
 
 -- the ways in which a run ends
-pub data RunEnds (left taken_before taken_now : Option (List ℕ)) (source_low source_high sink_low sink_high : ℕ) (start now : DiskState) (low high : ℕ)
+pub data RunEnds (left : Option (List ℕ)) (source_low source_high : ℕ) (out out_now trace trace_now : SinkState) (start now : DiskState) (low high : ℕ)
     (status : Status) (journals : Option Journals) (lists : Option RunLists) : Type 0 where
   -- the command file was not read
-  unread : IsReadEnd left source_low source_high status → (Tells start → IsUnwritten start now) → taken_now ≡ taken_before → journals ≡ None → lists ≡ None
-      → RunEnds left taken_before taken_now source_low source_high sink_low sink_high start now low high status journals lists
+  unread : IsReadEnd left source_low source_high status → (Tells start → IsUnwritten start now) → out_now ≡ out → trace_now ≡ trace → journals ≡ None → lists ≡ None
+      → RunEnds left source_low source_high out out_now trace trace_now start now low high status journals lists
   -- it was read, and the pool was not opened
   unopened : (commands : List Command) → (IsSome left → IsFile (text_of left) commands) → IsOpenEnd start low high status → (Tells start → IsUnwritten start now)
-      → taken_now ≡ taken_before → journals ≡ None → lists ≡ None
-      → RunEnds left taken_before taken_now source_low source_high sink_low sink_high start now low high status journals lists
+      → out_now ≡ out → trace_now ≡ trace → journals ≡ None → lists ≡ None
+      → RunEnds left source_low source_high out out_now trace trace_now start now low high status journals lists
   -- lanes began, and memory ran out
   cut_off : (commands : List Command) → (IsSome left → IsFile (text_of left) commands) → (o : Origin) (journal : MsJournal) (j : Journals) (l : RunLists) → IsOrigin start o → AreShipped o j l journal
-      → l.replies ≡ [] → status ≡ Memory → taken_now ≡ taken_before → journals ≡ Some j → lists ≡ Some l
-      → RunEnds left taken_before taken_now source_low source_high sink_low sink_high start now low high status journals lists
+      → l.replies ≡ [] → status ≡ Memory → out_now ≡ out → trace_now ≡ trace → journals ≡ Some j → lists ≡ Some l
+      → RunEnds left source_low source_high out out_now trace trace_now start now low high status journals lists
   -- all lanes ran
   ran : (commands : List Command) → (IsSome left → IsFile (text_of left) commands) → (o : Origin) (journal : MsJournal) (j : Journals) (l : RunLists) → IsOrigin start o → AreShipped o j l journal
-      → LanesDid commands taken_before taken_now sink_low sink_high start now low high o journal l status → journals ≡ Some j → lists ≡ Some l
-      → RunEnds left taken_before taken_now source_low source_high sink_low sink_high start now low high status journals lists
+      → LanesDid commands out out_now trace trace_now start now low high o journal j l status → journals ≡ Some j → lists ≡ Some l
+      → RunEnds left source_low source_high out out_now trace trace_now start now low high status journals lists
 
 -- the ways in which the record of a new pool is written
-pub data WritesNew (units : ℕ) (taken_before taken_now : Option (List ℕ)) (sink_low sink_high : ℕ) (start now : DiskState) (low high : ℕ) : Status → Type 0 where
-  device : Rose low high → taken_now ≡ taken_before → WritesNew units taken_before taken_now sink_low sink_high start now low high DeviceFault
-  memory : (Tells start → IsUnwritten start now) → taken_now ≡ taken_before → WritesNew units taken_before taken_now sink_low sink_high start now low high Memory
+pub data WritesNew (units : ℕ) (out out_now : SinkState) (start now : DiskState) (low high : ℕ) : Status → Type 0 where
+  device : Rose low high → out_now ≡ out → WritesNew units out out_now start now low high DeviceFault
+  memory : (Tells start → IsUnwritten start now) → out_now ≡ out → WritesNew units out out_now start now low high Memory
   written : (Tells start → (c : List ℕ) → now.may_leave c → IsEmptyRecord c units)
-      → (printed : Result (Unit {0}) Failed) → Prints taken_before taken_now sink_low sink_high created_text printed
-      → WritesNew units taken_before taken_now sink_low sink_high start now low high (end_status false printed)
+      → (printed : Result (Unit {0}) Failed) → PrintsTo out out_now created_text printed
+      → WritesNew units out out_now start now low high (end_status false printed)
 
 -- the ways in which a creation ends
-pub data CreateEnds (units : ℕ) (taken_before taken_now : Option (List ℕ)) (sink_low sink_high : ℕ) (start now : DiskState) (low high : ℕ) : Status → Type 0 where
-  already : (group : Group) → (Tells start → (old_units : ℕ) × HasRecord (bytes_of start) group.0 old_units) → (Tells start → IsUnwritten start now) → taken_now ≡ taken_before
-      → CreateEnds units taken_before taken_now sink_low sink_high start now low high (NotAPool (AlreadyPool group))
-  device : Rose low high → taken_now ≡ taken_before → CreateEnds units taken_before taken_now sink_low sink_high start now low high DeviceFault
-  memory : (Tells start → IsUnwritten start now) → taken_now ≡ taken_before → CreateEnds units taken_before taken_now sink_low sink_high start now low high Memory
+pub data CreateEnds (units : ℕ) (out out_now : SinkState) (start now : DiskState) (low high : ℕ) : Status → Type 0 where
+  already : (group : Group) → (Tells start → (old_units : ℕ) × HasRecord (bytes_of start) group.0 old_units) → (Tells start → IsUnwritten start now) → out_now ≡ out
+      → CreateEnds units out out_now start now low high (NotAPool (AlreadyPool group))
+  device : Rose low high → out_now ≡ out → CreateEnds units out out_now start now low high DeviceFault
+  memory : (Tells start → IsUnwritten start now) → out_now ≡ out → CreateEnds units out out_now start now low high Memory
   created : (Tells start → HasNoRecord (bytes_of start)) → (Tells start → (c : List ℕ) → now.may_leave c → IsEmptyRecord c units)
-      → (printed : Result (Unit {0}) Failed) → Prints taken_before taken_now sink_low sink_high created_text printed
-      → CreateEnds units taken_before taken_now sink_low sink_high start now low high (end_status false printed)
+      → (printed : Result (Unit {0}) Failed) → PrintsTo out out_now created_text printed
+      → CreateEnds units out out_now start now low high (end_status false printed)

@@ -2,11 +2,12 @@ pub mod Words
 pub mod Script
 pub mod Answers
 pub mod Texts
-pub mod Pieces
 pub mod Record
+pub mod Reporting
 pub mod GateState
 pub mod GateInside
 pub mod Backing
+pub mod Naming
 pub mod Reading
 pub mod Sound
 pub mod Pooling

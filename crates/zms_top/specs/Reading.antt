@@ -9,9 +9,9 @@ use Rattle.zms_top.specs.Words.{is_digit}
 use Rattle.zms_top.specs.Script.{what_text, line_text, IsCommand, IsNamed}
 use Rattle.zms_top.specs.declared.script.Command.{Command}
 use Rattle.zms_top.specs.declared.script.What.{What}
-use Rattle.zms_top.specs.declared.script.What.TheVariants.{Alloc, Sync}
+use Rattle.zms_top.specs.declared.script.What.TheVariants.{Alloc, Free, Sync}
 use Rattle.zms_top.specs.declared.script.lines.Line.{Line}
-use Rattle.zms_top.specs.declared.script.lines.Line.TheVariants.{AllocLine, SyncLine}
+use Rattle.zms_top.specs.declared.script.lines.Line.TheVariants.{AllocLine, FreeLine, SyncLine}
 
 -- no byte is this one
 abbrev pub Lacks : ℕ → List ℕ → Type 0
@@ -31,6 +31,7 @@ pub record IsFirstLine (text line next : List ℕ) : Type 0 where
 -- what a line asks for that was read
 abbrev pub what_of : Line → What
 what_of (AllocLine name size) = Alloc name.now size Normal 1
+what_of (FreeLine name) = Free name.now
 what_of SyncLine = Sync
 
 -- a line of the first lane
@@ -44,6 +45,7 @@ has_name names name = list_any (λ known. bytes_eq name known.now) names.keys
 -- does a command give its block this name?
 abbrev pub gives_name : List ℕ → What → Bool
 gives_name other (Alloc name _ _ _) = bytes_eq other name
+gives_name other (Free _) = false
 gives_name other Sync = false
 
 -- the command of a line, which gives its block no known name; its own is known from then on

@@ -5,7 +5,7 @@ use Rattle.zms_units.specs.declared.places.Class.{Class}
 use Rattle.zms_units.specs.declared.places.Class.TheVariants.{Normal, Log, Special, Dedup}
 use Rattle.zms_top.specs.Words.{is_lowercase, is_digit}
 use Rattle.zms_top.specs.declared.script.What.{What}
-use Rattle.zms_top.specs.declared.script.What.TheVariants.{Alloc, Sync}
+use Rattle.zms_top.specs.declared.script.What.TheVariants.{Alloc, Free, Sync}
 use Rattle.zms_top.specs.declared.script.Command.{Command}
 
 -- a byte of a block's name: a to z, 0 to 9
@@ -27,6 +27,7 @@ class_text Dedup = codes "dedup"
 -- the fields of a line behind its lane
 abbrev pub what_text : What → List ℕ
 what_text (Alloc name size class copies) = codes "alloc " ++ (name ++ (32 ∷ (decimal size ++ (32 ∷ (class_text class ++ (32 ∷ decimal copies))))))
+what_text (Free name) = codes "free " ++ name
 what_text Sync = codes "sync"
 
 -- a line, without its line feed
@@ -36,6 +37,7 @@ line_text c = decimal c.lane ++ (32 ∷ what_text c.what)
 -- what is in the grammar, within its limits, and built
 abbrev pub IsWhat : What → Type 0
 IsWhat (Alloc name size class copies) = IsName name × ((size < 2 ^ 63) × ((class ≡ Normal) × (copies ≡ 1)))
+IsWhat (Free name) = IsName name
 IsWhat Sync = Unit {0}
 
 pub record IsCommand (c : Command) : Type 0 where
@@ -46,6 +48,7 @@ pub record IsCommand (c : Command) : Type 0 where
 -- the name that an alloc gives its block
 abbrev pub IsNamed : What → List ℕ → Type 0
 IsNamed (Alloc name _ _ _) other = name ≡ other
+IsNamed (Free _) other = ⊥
 IsNamed Sync other = ⊥
 
 -- two allocs of one lane have two names

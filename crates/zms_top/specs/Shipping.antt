@@ -12,7 +12,8 @@ use Rattle.ms_model.specs.declared.journals.Journals.{Journals}
 use Rattle.ms_core.specs.State.{origin_of, settled_of}
 use Rattle.zms_dev.specs.declared.failed.Failed.{Failed}
 use Rattle.zms_top.specs.Answers.{Replied}
-use Rattle.zms_top.specs.Pieces.{Prints}
+use Rattle.zms_top.specs.Reporting.{SinkState, PrintsTo, WritesBoth}
+use Rattle.trace_text.specs.Traces.{metaslab_trace_text}
 use Rattle.zms_top.specs.Texts.{run_text}
 use Rattle.ms_model.specs.Origin.{Origin}
 use Rattle.zms_dev.specs.Disk.{DiskState}
@@ -52,17 +53,31 @@ pub record IsTally (p : Pool) (tally : Tally) : Type 0 where
   pub deferred : tally.deferred ≡ deferred_units (origin_of p.metaslab) p.metaslab.notes
   pub vacant : tally.vacant ≡ vacant_units (origin_of p.metaslab) p.metaslab.notes
 
--- the replies and totals are printed, and the status says how the lanes ended
-pub record Reports (p : Pool) (done : List Replied) (replies : List Reply) (taken_before taken_now : Option (List ℕ)) (low high : ℕ) (status : Status) : Type 0 where
+-- the replies and totals are printed
+pub record IsPrinted (p : Pool) (done : List Replied) (out out_now : SinkState) (printed : Result (Unit {0}) Failed) : Type 0 where
   pub tally : Tally
   pub tally_is : IsTally p tally
   pub group : Group
   pub group_is : group.0 ≡ settled_of p.metaslab
-  pub printed : Result (Unit {0}) Failed
-  pub prints : Prints taken_before taken_now low high (run_text done (tally ∷ []) group.0) printed
-  pub status_is : status ≡ end_status (any_device replies) printed
+  pub prints : PrintsTo out out_now (run_text done (tally ∷ []) group.0) printed
 
--- the same, where there is something to hand over
+-- lanes that ran to their end are reported: their journals and lists are handed over, the texts are written, and the status
+-- says how the lanes ended
+pub record IsReported (p : Pool) (done : List Replied) (replies : List Reply) (out out_now trace trace_now : SinkState) (status : Status) (journals : Option Journals) (lists : Option RunLists) : Type 0 where
+  pub some_journals : Journals
+  pub some_lists : RunLists
+  pub journals_are : journals ≡ Some some_journals
+  pub lists_are : lists ≡ Some some_lists
+  pub handed : HandsOver p replies some_journals some_lists
+  pub tally : Tally
+  pub tally_is : IsTally p tally
+  pub group : Group
+  pub group_is : group.0 ≡ settled_of p.metaslab
+  pub written : Result (Unit {0}) Failed
+  pub writes : WritesBoth out out_now trace trace_now (run_text done (tally ∷ []) group.0) (metaslab_trace_text some_journals) written
+  pub status_is : status ≡ end_status (any_device replies) written
+
+-- a pool's journals are handed over, where there is something to hand over
 pub record HasHandedOver (p : Pool) (replies : List Reply) (journals : Option Journals) (lists : Option RunLists) : Type 0 where
   pub some_journals : Journals
   pub some_lists : RunLists
@@ -71,11 +86,11 @@ pub record HasHandedOver (p : Pool) (replies : List Reply) (journals : Option Jo
   pub handed : HandsOver p replies some_journals some_lists
 
 -- lanes that began either met want of memory or ran to their end
-pub data LanesEnd (o : Origin) (commands : List Command) (taken_before taken_now : Option (List ℕ)) (sink_low sink_high : ℕ) (start now : DiskState) (low high : ℕ)
+pub data LanesEnd (o : Origin) (commands : List Command) (out out_now trace trace_now : SinkState) (start now : DiskState) (low high : ℕ)
     (status : Status) (journals : Option Journals) (lists : Option RunLists) : Type 0 where
-  cut_off : (journal : MsJournal) (j : Journals) (l : RunLists) → AreShipped o j l journal → l.replies ≡ [] → status ≡ Memory → taken_now ≡ taken_before
+  cut_off : (journal : MsJournal) (j : Journals) (l : RunLists) → AreShipped o j l journal → l.replies ≡ [] → status ≡ Memory → out_now ≡ out → trace_now ≡ trace
       → journals ≡ Some j → lists ≡ Some l
-      → LanesEnd o commands taken_before taken_now sink_low sink_high start now low high status journals lists
+      → LanesEnd o commands out out_now trace trace_now start now low high status journals lists
   ran : (journal : MsJournal) (j : Journals) (l : RunLists) → AreShipped o j l journal
-      → LanesDid commands taken_before taken_now sink_low sink_high start now low high o journal l status → journals ≡ Some j → lists ≡ Some l
-      → LanesEnd o commands taken_before taken_now sink_low sink_high start now low high status journals lists
+      → LanesDid commands out out_now trace trace_now start now low high o journal j l status → journals ≡ Some j → lists ≡ Some l
+      → LanesEnd o commands out out_now trace trace_now start now low high status journals lists

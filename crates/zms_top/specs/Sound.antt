@@ -18,7 +18,7 @@ use Rattle.zms_top.specs.Record.{IsRecord, is_set, bit_bytes}
 
 -- a pool of one metaslab
 abbrev pub ground_of : Origin → Ground
-ground_of o = record { opened = o.opened; ashift = o.ashift; units = o.units; metaslabs = 1 }
+ground_of o = record { opened = o.opened; ashift = o.ashift; units = o.units; metaslabs = 1; bases = λ _. o.base }
 
 -- the metaslab's journal is legal, the gate's says the same of groups, and while no fault is kept the bits in memory are
 -- what the last group holds

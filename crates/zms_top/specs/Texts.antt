@@ -9,10 +9,10 @@ use Rattle.zms_units.specs.declared.places.Class.TheVariants.{Normal, Log, Speci
 use Rattle.zms_top.specs.Script.{class_text}
 use Rattle.zms_top.specs.Answers.{Replied}
 use Rattle.zms_top.specs.declared.script.What.{What}
-use Rattle.zms_top.specs.declared.script.What.TheVariants.{Alloc, Sync}
+use Rattle.zms_top.specs.declared.script.What.TheVariants.{Alloc, Free, Sync}
 use Rattle.zms_top.specs.declared.tally.Tally.{Tally}
 use Rattle.zms_top.specs.declared.replies.Answer.{Answer}
-use Rattle.zms_top.specs.declared.replies.Answer.TheVariants.{Granted, NoSpace, BadSize, Done, Device, Suspended}
+use Rattle.zms_top.specs.declared.replies.Answer.TheVariants.{Granted, NoSpace, BadSize, Done, NoName, NotLive, Device, Suspended}
 
 -- ` CLASS V:OFFSET:SIZE`
 abbrev pub copy_text : Dva → List ℕ
@@ -27,12 +27,15 @@ answer_text (Granted group copies) = codes "granted " ++ (decimal group.0 ++ fla
 answer_text (NoSpace looked) = codes "nospace " ++ decimal looked
 answer_text BadSize = codes "badsize"
 answer_text (Done group) = codes "done " ++ decimal group.0
+answer_text NoName = codes "noname"
+answer_text (NotLive vdev offset) = codes "notlive " ++ (decimal vdev ++ (58 ∷ decimal offset))
 answer_text (Device before after) = codes "device " ++ (decimal before ++ (32 ∷ decimal after))
 answer_text (Suspended first) = codes "suspended " ++ first_text first
 
 -- the command word and its first argument
 abbrev pub head_text : What → List ℕ
 head_text (Alloc name _ _ _) = codes "alloc " ++ name
+head_text (Free name) = codes "free " ++ name
 head_text Sync = codes "sync"
 
 -- a line of out

@@ -4,20 +4,25 @@ ghost use Rattle.std.specs.Prelude.{◌≡◌, ℕ, ◌+◌, ◌^◌, ◌<◌, �
 ghost use Rattle.ms_model.specs.Gates.{open_group};
 ghost use Rattle.ms_core.specs.State.{origin_of, StaysButNotes};
 ghost use Rattle.zms_top.specs.Answers.{IsOfAlloc};
-ghost use Rattle.zms_top.specs.Backing.{AllocLine, dva_at};
+ghost use Rattle.zms_top.specs.declared.script.What.TheVariants.{Alloc as AllocOf};
+ghost use Rattle.zms_units.specs.declared.places.Class.{Class};
+ghost use Rattle.zms_top.specs.Backing.{Ground, AllocLine, dva_at};
+ghost use Rattle.zms_top.specs.Naming.{Learns};
 ghost use Rattle.zms_top.specs.Sound.{ground_of};
 ghost use Rattle.zms_top.specs.Acting.{Acted, IsPool, LeavesSettled};
 
 use crate::Answer;
+use crate::blocks::add_block;
 use crate::look::look;
 use crate::pool::{ASHIFT, Pool};
 use std::alloc::{AllocError, Global};
+use std::collections::BTreeMap;
 use zms_units::{Class, Copies, Dva, Seg, units_of};
 
 /// Where a segment of the pool's one metaslab lies.
 fn place_of(seg: Seg) -> Dva
     requires { seg.start + seg.count < 2 ^ 32 }
-    ensures { (opened units metaslabs : ℕ) → result ≡ dva_at (record { opened = opened; ashift = 12; units = units; metaslabs = metaslabs }) 0 seg }
+    ensures { (pool : Ground) → pool.ashift ≡ 12 → result ≡ dva_at pool 0 seg }
 {
     Dva {
         class: Class::Normal,
@@ -27,11 +32,14 @@ fn place_of(seg: Seg) -> Dva
     }
 }
 
-/// One copy of a block of class normal, as `metaslab_alloc` grants it. A size that no block may have looks at nothing.
-pub(crate) fn alloc(
+/// One copy of a block of class normal, as `metaslab_alloc` grants it, which is known by its name from then on. A size that
+/// no block may have looks at nothing.
+pub(crate) fn alloc<'a>(
     alloc: Global,
     pool: &mut Pool,
+    blocks: &mut BTreeMap<&'a str, Seg>,
     lane: u8,
+    name: &'a str,
     size: u64,
 ) -> Result<Answer, AllocError>
     requires pool { IsPool pool.old }
@@ -39,6 +47,7 @@ pub(crate) fn alloc(
     ensures acted { IfOk result (λ answer. Acted pool.old pool.new lane (AllocLine (ground_of (origin_of pool.old.metaslab)) lane size answer)) }
     ensures leaves { IfOk result (λ answer. LeavesSettled pool.old pool.new) }
     ensures answer { IfOk result IsOfAlloc }
+    ensures learns { (class : Class) → (copies : ℕ) → IfOk result (λ answer. Learns (ground_of (origin_of pool.old.metaslab)) (AllocOf name.now size class copies) answer blocks.old blocks.new) }
     // Whatever is answered.
     ensures stays { StaysButNotes pool.old.metaslab pool.new.metaslab }
     ensures gate { pool.new.gate.opened ≡ pool.old.gate.opened }
@@ -50,6 +59,7 @@ pub(crate) fn alloc(
     let Some(seg) = look(&mut pool.metaslab, &pool.base, lane, group, count)? else {
         return Ok(Answer::NoSpace { looked: 1 });
     };
+    add_block(blocks, name, seg)?;
     let mut copies = Copies::new(alloc);
     copies.push(place_of(seg));
     Ok(Answer::Granted { group, copies })

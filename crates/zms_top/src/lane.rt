@@ -9,28 +9,36 @@ ghost use Rattle.zms_top.specs.Script.{IsCommand};
 ghost use Rattle.zms_top.specs.Answers.{Replied, first_with, first_fault, paired};
 ghost use Rattle.zms_top.specs.Backing.{WhatLine, AreIntervals};
 ghost use Rattle.zms_top.specs.Sound.{ground_of};
+ghost use Rattle.zms_top.specs.Naming.{AreWithin, Learns, AreNamed};
 ghost use Rattle.zms_top.specs.Acting.{Acted, IsPool, IsKept};
 ghost use Rattle.zms_top.specs.Running.{HasRun, answers_of};
 
 use crate::allocating::alloc;
+use crate::blocks::find_block;
+use crate::freeing::free;
 use crate::pool::Pool;
 use crate::syncing::sync;
 use crate::{Answer, Command, Reply, What};
 use std::alloc::{AllocError, Global};
+use std::collections::BTreeMap;
 use zms_dev::{Disk, Meet};
+use zms_units::Seg;
 
-/// Runs one command.
-fn run_command<D: Disk>(
+/// Runs one command. The lane's blocks are known by their names.
+fn run_command<'a, D: Disk>(
     alloc_from: Global,
     pool: &mut Pool,
     disk: &mut D,
+    blocks: &mut BTreeMap<&'a str, Seg>,
     lane: u8,
-    what: &What,
+    what: &'a What,
 ) -> Result<Answer, AllocError>
     requires pool { IsPool pool.old }
     requires lane { (1 ≤ lane) × (lane ≤ 16) }
     requires small { open_group pool.old.gate.opened pool.old.gate.notes < 2 ^ 63 }
-    ensures acted { (done : List Replied) → first_fault done ≡ pool.old.first → IfOk result (λ answer. Acted pool.old pool.new lane (WhatLine (ground_of (origin_of pool.old.metaslab)) lane done what.now answer)) }
+    requires within { AreWithin pool.old.metaslab.units blocks.old }
+    ensures acted { (done : List Replied) → first_fault done ≡ pool.old.first → AreNamed (ground_of (origin_of pool.old.metaslab)) done blocks.old → IfOk result (λ answer. Acted pool.old pool.new lane (WhatLine (ground_of (origin_of pool.old.metaslab)) lane done what.now answer)) }
+    ensures learns { IfOk result (λ answer. Learns (ground_of (origin_of pool.old.metaslab)) what.now answer blocks.old blocks.new) }
     ensures first { IfOk result (λ answer. pool.new.first ≡ first_with pool.old.first answer) }
     ensures intervals { IfOk result (λ answer. AreIntervals (D.faults disk.old) (D.faults disk.new) (answer ∷ [])) }
     ensures kept { Tells (D.state disk.old) → IfOk result (λ answer. pool.new.first ≡ None → IsKept (origin_of pool.old.metaslab) pool.old.metaslab.notes pool.new.metaslab.notes (D.state disk.old) (D.state disk.new)) }
@@ -40,7 +48,10 @@ fn run_command<D: Disk>(
     ensures gate { pool.new.gate.opened ≡ pool.old.gate.opened }
 {
     match what {
-        What::Alloc { size, .. } => alloc(alloc_from, pool, lane, *size),
+        What::Alloc { name, size, .. } => {
+            alloc(alloc_from, pool, blocks, lane, name.as_str(), *size)
+        }
+        What::Free { name } => free(pool, lane, find_block(blocks, name.as_str())),
         What::Sync => sync(pool, disk, lane),
     }
 }
@@ -67,9 +78,10 @@ pub(crate) fn run_lane<D: Disk, M: Meet>(
     ensures gate { pool.new.gate.opened ≡ pool.old.gate.opened }
 {
     let mut replies = Vec::with_capacity(alloc, commands.len())?;
+    let mut blocks = BTreeMap::new(alloc);
     for command in commands {
         meet.here(command.lane);
-        let answer = run_command(alloc, pool, disk, command.lane, &command.what)?;
+        let answer = run_command(alloc, pool, disk, &mut blocks, command.lane, &command.what)?;
         replies.push(Reply {
             lane: command.lane,
             answer,

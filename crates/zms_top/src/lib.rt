@@ -7,6 +7,8 @@
 #![tactic(auto)]
 
 mod allocating;
+mod blocks;
+mod freeing;
 mod gate;
 mod lane;
 mod look;

@@ -13,7 +13,11 @@ use std::alloc::AllocError;
 use zms_units::{Group, MAX_UNITS, Seg};
 
 /// Brings free space into memory where it is not there, from the runs that the settled groups hold.
-fn load_first(metaslab: &mut Metaslab<PlainTrees>, base: &[Seg], lane: u8) -> Result<(), AllocError>
+pub(crate) fn load_first(
+    metaslab: &mut Metaslab<PlainTrees>,
+    base: &[Seg],
+    lane: u8,
+) -> Result<(), AllocError>
     requires lane { (1 ≤ lane) × (lane ≤ 16) }
     requires segs { AreSegs metaslab.old.units base.now }
     requires held { is_loaded metaslab.old.notes ≡ false → (u : ℕ) → u < metaslab.old.units → covered base.now u ≡ held (origin_of metaslab.old) metaslab.old.notes (settled_of metaslab.old) u }

@@ -3,42 +3,15 @@
 ghost use Rattle.std.specs.Prelude.{◌≡◌, ◌+◌, ◌*◌, ◌∷◌, ◌++◌, ◌^◌, ◌<◌, ◌≤◌, List, length, map, codes, decimal};
 ghost use Rattle.std.specs.List.{flat_map, list_any, sum_by};
 ghost use Rattle.zms_top.specs.Answers.{paired};
-ghost use Rattle.zms_top.specs.Pieces.{piece_text, Prints};
+ghost use Rattle.trace_text.specs.Printing.{Prints};
 ghost use Rattle.zms_top.specs.Script.{class_text};
 ghost use Rattle.zms_top.specs.Texts.{same_class, is_asked, if_asked, sums_text, live_bytes, deferred_bytes, vacant_bytes, counts_text, metaslab_text, metaslab_lines, class_line, class_lines, pool_line, group_line, totals_text, run_text, created_text, FitInBytes, copy_text, first_text, answer_text, head_text, reply_text};
 
 use crate::tally::Tally;
 use crate::{Answer, Command, Reply, What};
-use itoa::Buffer;
-use zms_dev::{Failed, Sink, write_whole};
+use trace_text::{Piece, write_pieces};
+use zms_dev::{Failed, Sink};
 use zms_units::{Class, Dva, First, Group};
-
-/// A piece of a text: bytes as they stand, or a number in decimal digits.
-#[derive(Clone, Copy)]
-pub enum Piece<'a> {
-    Text(&'a [u8]),
-    Number(u64),
-}
-
-/// Writes one piece.
-fn write_piece<K: Sink>(out: &mut K, piece: &Piece<'_>) -> Result<(), Failed>
-    ensures { Prints (K.taken out.old) (K.taken out.new) (K.faults out.old) (K.faults out.new) (piece_text piece.now) result }
-{
-    match piece {
-        Piece::Text(text) => write_whole(out, text),
-        Piece::Number(n) => write_whole(out, Buffer::new().format(*n).as_bytes()),
-    }
-}
-
-/// Writes one piece behind the other.
-fn write_pieces<K: Sink>(out: &mut K, pieces: &[Piece<'_>]) -> Result<(), Failed>
-    ensures { Prints (K.taken out.old) (K.taken out.new) (K.faults out.old) (K.faults out.new) (flat_map piece_text pieces.now) result }
-{
-    for piece in pieces {
-        write_piece(out, piece)?;
-    }
-    Ok(())
-}
 
 fn class_name(class: Class) -> &'static [u8]
     ensures { result.now ≡ class_text class }
@@ -121,6 +94,16 @@ fn write_answer<K: Sink>(out: &mut K, answer: &Answer) -> Result<(), Failed>
             out,
             &[Piece::Text(b"done "), Piece::Number(group.0)],
         ),
+        Answer::NoName => write_pieces(out, &[Piece::Text(b"noname")]),
+        Answer::NotLive { vdev, offset } => write_pieces(
+            out,
+            &[
+                Piece::Text(b"notlive "),
+                Piece::Number(u64::from(*vdev)),
+                Piece::Text(b":"),
+                Piece::Number(*offset),
+            ],
+        ),
         Answer::Device { before, after } => write_pieces(
             out,
             &[
@@ -145,6 +128,10 @@ fn write_head<K: Sink>(out: &mut K, what: &What) -> Result<(), Failed>
                 Piece::Text(b"alloc "),
                 Piece::Text(name.as_str().as_bytes()),
             ],
+        ),
+        What::Free { name } => write_pieces(
+            out,
+            &[Piece::Text(b"free "), Piece::Text(name.as_str().as_bytes())],
         ),
         What::Sync => write_pieces(out, &[Piece::Text(b"sync")]),
     }

@@ -11,8 +11,13 @@ pub enum Answer {
     NoSpace { looked: u64 },
     /// The size is 0, or larger than a block may be.
     BadSize,
-    /// A sync made all groups up to this one lasting.
+    /// A free gave the block back in this group, or a sync made all groups up to this one lasting.
     Done { group: Group },
+    /// The lane was granted no block of this name.
+    NoName,
+    /// A unit of the block is not handed out in a group of at most the open one: the lowest such unit, in bytes of its
+    /// vdev.
+    NotLive { vdev: u8, offset: u64 },
     /// A call of the pool device failed: its count of faults before and after.
     Device { before: u64, after: u64 },
     /// The pool device isn't written any more, since this happened.

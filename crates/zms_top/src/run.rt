@@ -8,7 +8,9 @@ ghost use Rattle.zms_top.specs.Record.{IsGroup};
 ghost use Rattle.ms_core.specs.State.{origin_of};
 ghost use Rattle.zms_top.specs.Ends.{RunEnds};
 ghost use Rattle.zms_top.specs.Opening.{IsOpened, IsAssembled, IsFresh};
-ghost use Rattle.zms_top.specs.Shipping.{HasHandedOver, LanesEnd};
+ghost use Rattle.zms_top.specs.Answers.{paired};
+ghost use Rattle.zms_top.specs.Reporting.{sink};
+ghost use Rattle.zms_top.specs.Shipping.{HasHandedOver, IsReported, LanesEnd};
 
 #[cfg(test)]
 mod stops;
@@ -18,7 +20,7 @@ use crate::lane::run_lane;
 use crate::pool::{ASHIFT, FIRST_METASLAB, Pool};
 use crate::record::{FirstRecord, Opened, StoreFault};
 use crate::script::{MAX_TEXT_BYTES, Script, TextFault, read_commands};
-use crate::shipping::{Room, hand_over, report};
+use crate::shipping::{Room, hand_over, print, status_of, write_trace};
 use crate::status::{OpenCause, PoolCause, RunLists, Status};
 use crate::{Command, Reply};
 use ms_core::{Metaslab, RunBuf};
@@ -115,30 +117,52 @@ fn refused(status: Status) -> Ended
     }
 }
 
-/// A run whose lanes are done, with this status.
-fn handed_over(
-    alloc: Global,
-    status: Status,
-    pool: Pool,
-    room: Room,
-    replies: Items<Reply>,
-) -> Ended
+/// A run whose lanes were cut off by want of memory. Writes nothing.
+fn cut_off(alloc: Global, pool: Pool, room: Room) -> Ended
     requires { pool.gate.opened ≡ pool.metaslab.opened }
-    ensures status { result.status ≡ status }
-    ensures handed { HasHandedOver pool replies result.journals result.lists }
+    ensures status { result.status ≡ Status.Memory }
+    ensures handed { HasHandedOver pool [] result.journals result.lists }
 {
-    let (journals, lists) = hand_over(alloc, pool, room, replies);
+    let (journals, lists) = hand_over(alloc, pool, room, Items::new(alloc));
     Ended {
-        status,
+        status: Status::Memory,
         journals: Some(journals),
         lists: Some(lists),
     }
 }
 
-/// Runs the lanes over a pool that was just opened, and prints what they answered.
-fn run_lanes<K: Sink, D: Disk, M: Meet>(
+/// A run whose lanes ran to their end: prints what they answered, hands the journals over, and writes the trace. Takes no
+/// memory.
+fn reported<K: Sink, T: Sink>(
     alloc: Global,
     out: &mut K,
+    trace: &mut T,
+    pool: Pool,
+    commands: &[Command],
+    room: Room,
+    replies: Vec<Reply>,
+) -> Ended
+    requires shift { pool.metaslab.ashift ≡ 12 }
+    requires id { pool.metaslab.id ≡ record { vdev = 0; index = 0 } }
+    requires opened { pool.gate.opened ≡ pool.metaslab.opened }
+    requires each { length commands.now ≡ length replies.items }
+    ensures { IsReported pool (paired commands.now replies.items) replies.items (sink (K.taken out.old) (K.faults out.old)) (sink (K.taken out.new) (K.faults out.new)) (sink (T.taken trace.old) (T.faults trace.old)) (sink (T.taken trace.new) (T.faults trace.new)) result.status result.journals result.lists }
+{
+    let printed = print(out, &pool, commands, &replies);
+    let (journals, lists) = hand_over(alloc, pool, room, Items::from_vec(replies));
+    let written = write_trace(trace, printed, &journals);
+    Ended {
+        status: status_of(lists.replies.as_slice(), written),
+        journals: Some(journals),
+        lists: Some(lists),
+    }
+}
+
+/// Runs the lanes over a pool that was just opened, prints what they answered, and writes the trace.
+fn run_lanes<K: Sink, T: Sink, D: Disk, M: Meet>(
+    alloc: Global,
+    out: &mut K,
+    trace: &mut T,
     disk: &mut D,
     opened: Pool,
     commands: &[Command],
@@ -147,27 +171,25 @@ fn run_lanes<K: Sink, D: Disk, M: Meet>(
 ) -> Ended
     requires opened { IsFresh opened }
     requires commands { AreCommands commands.now }
-    ensures { LanesEnd (origin_of opened.metaslab) commands.now (K.taken out.old) (K.taken out.new) (K.faults out.old) (K.faults out.new) (D.state disk.old) (D.state disk.new) (D.faults disk.old) (D.faults disk.new) result.status result.journals result.lists }
+    ensures { LanesEnd (origin_of opened.metaslab) commands.now (sink (K.taken out.old) (K.faults out.old)) (sink (K.taken out.new) (K.faults out.new)) (sink (T.taken trace.old) (T.faults trace.old)) (sink (T.taken trace.new) (T.faults trace.new)) (D.state disk.old) (D.state disk.new) (D.faults disk.old) (D.faults disk.new) result.status result.journals result.lists }
 {
     let mut pool = opened;
     match run_lane(alloc, &mut pool, disk, commands, meet) {
-        Err(_) => handed_over(alloc, Status::Memory, pool, room, Items::new(alloc)),
-        Ok(replies) => {
-            let status = report(out, &pool, commands, &replies);
-            handed_over(alloc, status, pool, room, Items::from_vec(replies))
-        }
+        Err(_) => cut_off(alloc, pool, room),
+        Ok(replies) => reported(alloc, out, trace, pool, commands, room, replies),
     }
 }
 
 /// A run of the source's commands over the device's pool.
-pub(crate) fn run<S: Source, K: Sink, D: Disk, M: Meet>(
+pub(crate) fn run<S: Source, K: Sink, T: Sink, D: Disk, M: Meet>(
     alloc: Global,
     input: &mut S,
     out: &mut K,
+    trace: &mut T,
     disk: &mut D,
     meet: &M,
 ) -> Ended
-    ensures { RunEnds (S.left input.old) (K.taken out.old) (K.taken out.new) (S.faults input.old) (S.faults input.new) (K.faults out.old) (K.faults out.new) (D.state disk.old) (D.state disk.new) (D.faults disk.old) (D.faults disk.new) result.status result.journals result.lists }
+    ensures { RunEnds (S.left input.old) (S.faults input.old) (S.faults input.new) (sink (K.taken out.old) (K.faults out.old)) (sink (K.taken out.new) (K.faults out.new)) (sink (T.taken trace.old) (T.faults trace.old)) (sink (T.taken trace.new) (T.faults trace.new)) (D.state disk.old) (D.state disk.new) (D.faults disk.old) (D.faults disk.new) result.status result.journals result.lists }
 {
     let script = match read_script(alloc, input) {
         Ok(script) => script,
@@ -183,6 +205,7 @@ pub(crate) fn run<S: Source, K: Sink, D: Disk, M: Meet>(
     run_lanes(
         alloc,
         out,
+        trace,
         disk,
         pool,
         script.commands.as_slice(),

@@ -38,6 +38,10 @@ pub enum What {
         class: Class,
         copies: u8,
     },
+    /// Gives back the block that the lane was granted under this name.
+    Free {
+        name: Text,
+    },
     /// Makes all changes so far lasting.
     Sync,
 }
@@ -107,6 +111,9 @@ fn next_command<'a>(
     };
     let what = match read {
         Line::SyncLine => What::Sync,
+        Line::FreeLine { name } => What::Free {
+            name: Text::from_string(String::from_str(alloc, name)?),
+        },
         Line::AllocLine { name, size } => {
             if !add_name(names, name)? {
                 return Ok(None);
@@ -127,7 +134,8 @@ fn next_command<'a>(
     }))
 }
 
-/// The commands of a file: lines `1 alloc NAME SIZE normal 1` and `1 sync`, of which the last may lack its line feed.
+/// The commands of a file: lines `1 alloc NAME SIZE normal 1`, `1 free NAME` and `1 sync`, of which the last may lack its
+/// line feed.
 ///
 /// Takes time linear in the text, but for a search in the names of the lines before at each alloc.
 pub fn read_commands(alloc: Global, text: &[u8]) -> Result<Script, TextFault>

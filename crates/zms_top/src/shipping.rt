@@ -1,11 +1,13 @@
 //! What a run hands back when its lanes are done.
 
-ghost use Rattle.std.specs.Prelude.{◌≡◌, ℕ, ◌<◌, ◌≤◌, [], ◌∷◌, length, replicate, vec_capacity, vec_len, IfOk};
+ghost use Rattle.std.specs.Prelude.{◌≡◌, ℕ, ◌<◌, ◌≤◌, [], ◌∷◌, length, replicate, vec_capacity, vec_len, IfOk, OnOk, OnErr, IsErr};
+ghost use Rattle.trace_text.specs.Traces.{metaslab_trace_text};
 ghost use Rattle.ms_model.specs.Counts.{live_units, deferred_units, vacant_units};
 ghost use Rattle.ms_core.specs.State.{origin_of};
 ghost use Rattle.zms_top.specs.Answers.{paired};
-ghost use Rattle.zms_top.specs.Ends.{any_device, is_device as names_device};
-ghost use Rattle.zms_top.specs.Shipping.{HandsOver, IsTally, Reports};
+ghost use Rattle.zms_top.specs.Reporting.{sink, PrintsTo};
+ghost use Rattle.zms_top.specs.Ends.{any_device, is_device as names_device, end_status};
+ghost use Rattle.zms_top.specs.Shipping.{HandsOver, IsTally, IsPrinted};
 
 use crate::pool::{ASHIFT, FIRST_METASLAB, Pool};
 use crate::printing::write_run;
@@ -14,7 +16,8 @@ use crate::tally::Tally;
 use crate::{Answer, Command, Reply};
 use ms_model::{DeviceNote, Journals, MsJournal};
 use std::alloc::{AllocError, Global};
-use zms_dev::Sink;
+use trace_text::write_metaslab_trace;
+use zms_dev::{Failed, Sink};
 use zms_units::{Class, Items};
 
 /// How many data devices a pool has.
@@ -107,23 +110,42 @@ fn has_device(replies: &[Reply]) -> bool
     replies.iter().any(|reply| is_device(&reply.answer))
 }
 
-/// Prints the replies and totals, and tells how the lanes ended. Takes no memory.
-pub(crate) fn report<K: Sink>(
+/// Prints the replies and totals. Takes no memory.
+pub(crate) fn print<K: Sink>(
     out: &mut K,
     pool: &Pool,
     commands: &[Command],
     replies: &[Reply],
-) -> Status
+) -> Result<(), Failed>
     requires shift { pool.now.metaslab.ashift ≡ 12 }
     requires id { pool.now.metaslab.id ≡ record { vdev = 0; index = 0 } }
     requires each { length commands.now ≡ length replies.now }
-    ensures { Reports pool.now (paired commands.now replies.now) replies.now (K.taken out.old) (K.taken out.new) (K.faults out.old) (K.faults out.new) result }
+    ensures { IsPrinted pool.now (paired commands.now replies.now) (sink (K.taken out.old) (K.faults out.old)) (sink (K.taken out.new) (K.faults out.new)) result }
 {
     let tally = tally_of(pool);
-    let printed = write_run(out, commands, replies, &[tally], pool.metaslab.settled());
+    write_run(out, commands, replies, &[tally], pool.metaslab.settled())
+}
+
+/// Writes the trace, where the replies and totals were printed. Takes no memory.
+pub(crate) fn write_trace<T: Sink>(
+    trace: &mut T,
+    printed: Result<(), Failed>,
+    journals: &Journals,
+) -> Result<(), Failed>
+    ensures traces { OnOk printed (PrintsTo (sink (T.taken trace.old) (T.faults trace.old)) (sink (T.taken trace.new) (T.faults trace.new)) (metaslab_trace_text journals.now) result) }
+    ensures stops { OnErr printed ((trace.new ≡ trace.old) × IsErr result) }
+{
+    printed?;
+    write_metaslab_trace(trace, journals)
+}
+
+/// How lanes ended that answered this, and whose texts were written or not.
+pub(crate) fn status_of(replies: &[Reply], written: Result<(), Failed>) -> Status
+    ensures { result ≡ end_status (any_device replies.now) written }
+{
     if has_device(replies) {
         Status::DeviceFault
-    } else if printed.is_err() {
+    } else if written.is_err() {
         Status::WriteFault
     } else {
         Status::Done

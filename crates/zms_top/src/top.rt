@@ -5,6 +5,7 @@ ghost use Rattle.zms_top.specs.Words.{Asks, AsksNothing};
 ghost use Rattle.zms_dev.specs.Causes.{Rose};
 ghost use Rattle.zms_dev.specs.Disk.{Tells};
 ghost use Rattle.zms_top.specs.Causes.{Cause, IsHonestRun, IsHonestCreate, IsDone};
+ghost use Rattle.zms_top.specs.Reporting.{sink};
 ghost use Rattle.zms_top.specs.Ends.{RunEnds, CreateEnds, WritesNew, IsEmptyRecord};
 ghost use Rattle.zms_top.specs.declared.words.Asked.TheVariants.{Create, Run};
 ghost use Rattle.zms_top.specs.declared.status.Status.TheVariants.{Usage};
@@ -41,7 +42,7 @@ fn store_empty<D: Disk>(alloc: Global, disk: &mut D, units: u32) -> Result<(), S
 fn write_new<K: Sink, D: Disk>(alloc: Global, out: &mut K, disk: &mut D, units: u32) -> Status
     requires least { 64 ≤ units }
     requires most { units ≤ 131072 }
-    ensures { WritesNew units (K.taken out.old) (K.taken out.new) (K.faults out.old) (K.faults out.new) (D.state disk.old) (D.state disk.new) (D.faults disk.old) (D.faults disk.new) result }
+    ensures { WritesNew units (sink (K.taken out.old) (K.faults out.old)) (sink (K.taken out.new) (K.faults out.new)) (D.state disk.old) (D.state disk.new) (D.faults disk.old) (D.faults disk.new) result }
 {
     match store_empty(alloc, disk, units) {
         Err(StoreFault::Memory) => Status::Memory,
@@ -57,7 +58,7 @@ fn write_new<K: Sink, D: Disk>(alloc: Global, out: &mut K, disk: &mut D, units: 
 fn create<K: Sink, D: Disk>(alloc: Global, out: &mut K, disk: &mut D, units: u32) -> Status
     requires least { 64 ≤ units }
     requires most { units ≤ 131072 }
-    ensures { CreateEnds units (K.taken out.old) (K.taken out.new) (K.faults out.old) (K.faults out.new) (D.state disk.old) (D.state disk.new) (D.faults disk.old) (D.faults disk.new) result }
+    ensures { CreateEnds units (sink (K.taken out.old) (K.faults out.old)) (sink (K.taken out.new) (K.faults out.new)) (D.state disk.old) (D.state disk.new) (D.faults disk.old) (D.faults disk.new) result }
 {
     match FirstRecord::read(alloc, disk) {
         Ok(None) => write_new(alloc, out, disk, units),
@@ -83,7 +84,7 @@ pub fn zms_still<K: Sink, D: Disk>(
 ) -> (Status, D)
     ensures usage { AsksNothing (map string_bytes words.now) → (result.0 ≡ Usage) × ((K.taken out.new ≡ K.taken out.old) × (result.1 ≡ meta)) }
     ensures run { Asks (map string_bytes words.now) Run → (result.0 ≡ Usage) × ((K.taken out.new ≡ K.taken out.old) × (result.1 ≡ meta)) }
-    ensures create { (units : ℕ) → Asks (map string_bytes words.now) (Create units) → CreateEnds units (K.taken out.old) (K.taken out.new) (K.faults out.old) (K.faults out.new) (D.state meta) (D.state result.1) (D.faults meta) (D.faults result.1) result.0 }
+    ensures create { (units : ℕ) → Asks (map string_bytes words.now) (Create units) → CreateEnds units (sink (K.taken out.old) (K.faults out.old)) (sink (K.taken out.new) (K.faults out.new)) (D.state meta) (D.state result.1) (D.faults meta) (D.faults result.1) result.0 }
 {
     let mut meta = meta;
     match read_words(words) {
@@ -94,16 +95,17 @@ pub fn zms_still<K: Sink, D: Disk>(
 }
 
 /// One call of the program: `run` runs the source's commands over the pool of `meta`, and all other words go to
-/// `zms_still`. The 16 data devices come back as they were; the trace takes nothing.
+/// `zms_still`. Once its lanes ran to their end, a run prints the replies and totals to `out`, and then writes its journals
+/// to `trace`; where `out` fails, `trace` takes nothing. The 16 data devices come back as they were.
 ///
-/// Linear in the text and in the units of the pool, but for what each command does.
+/// Linear in the text, in the units of the pool and in its journal, but for what each command does.
 pub fn zms<R, S, K, T, D, V, M>(
     _rt: &R,
     alloc: Global,
     words: &[String],
     input: &mut S,
     out: &mut K,
-    _trace: &mut T,
+    trace: &mut T,
     meta: D,
     devices: Vec<V>,
     meet: &M,
@@ -117,20 +119,20 @@ where
     V: Data,
     M: Meet,
     requires { length devices.items ≡ 16 }
-    ensures run { Asks (map string_bytes words.now) Run → RunEnds (S.left input.old) (K.taken out.old) (K.taken out.new) (S.faults input.old) (S.faults input.new) (K.faults out.old) (K.faults out.new) (D.state meta) (D.state result.meta) (D.faults meta) (D.faults result.meta) result.status result.journals result.lists }
-    ensures create { (units : ℕ) → Asks (map string_bytes words.now) (Create units) → CreateEnds units (K.taken out.old) (K.taken out.new) (K.faults out.old) (K.faults out.new) (D.state meta) (D.state result.meta) (D.faults meta) (D.faults result.meta) result.status }
+    ensures run { Asks (map string_bytes words.now) Run → RunEnds (S.left input.old) (S.faults input.old) (S.faults input.new) (sink (K.taken out.old) (K.faults out.old)) (sink (K.taken out.new) (K.faults out.new)) (sink (T.taken trace.old) (T.faults trace.old)) (sink (T.taken trace.new) (T.faults trace.new)) (D.state meta) (D.state result.meta) (D.faults meta) (D.faults result.meta) result.status result.journals result.lists }
+    ensures create { (units : ℕ) → Asks (map string_bytes words.now) (Create units) → CreateEnds units (sink (K.taken out.old) (K.faults out.old)) (sink (K.taken out.new) (K.faults out.new)) (D.state meta) (D.state result.meta) (D.faults meta) (D.faults result.meta) result.status }
     ensures usage { AsksNothing (map string_bytes words.now) → (result.status ≡ Usage) × ((K.taken out.new ≡ K.taken out.old) × (result.meta ≡ meta)) }
-    ensures cause { Cause (map string_bytes words.now) (S.left input.old) (S.faults input.old) (S.faults input.new) (K.faults out.old) (K.faults out.new) (D.state meta) (D.faults meta) (D.faults result.meta) result.status }
-    ensures complete_run { IsHonestRun (map string_bytes words.now) (S.left input.old) (S.faults input.old) (S.faults input.new) (K.faults out.old) (K.faults out.new) (D.state meta) (D.faults meta) (D.faults result.meta) → IsDone result.status }
+    ensures cause { Cause (map string_bytes words.now) (S.left input.old) (S.faults input.old) (S.faults input.new) (K.faults out.old) (K.faults out.new) (T.faults trace.old) (T.faults trace.new) (D.state meta) (D.faults meta) (D.faults result.meta) result.status }
+    ensures complete_run { IsHonestRun (map string_bytes words.now) (S.left input.old) (S.faults input.old) (S.faults input.new) (K.faults out.old) (K.faults out.new) (T.faults trace.old) (T.faults trace.new) (D.state meta) (D.faults meta) (D.faults result.meta) → IsDone result.status }
     ensures complete_create { IsHonestCreate (map string_bytes words.now) (K.faults out.old) (K.faults out.new) (D.state meta) (D.faults meta) (D.faults result.meta) → IsDone result.status }
     ensures input { (Asks (map string_bytes words.now) Run → ⊥) → (input.new ≡ input.old) × ((result.journals ≡ None) × (result.lists ≡ None)) }
     ensures devices { result.devices ≡ devices.items }
-    ensures trace { _trace.new ≡ _trace.old }
+    ensures trace { (Asks (map string_bytes words.now) Run → ⊥) → trace.new ≡ trace.old }
 {
     let mut meta = meta;
     match read_words(words) {
         Some(Asked::Run) => {
-            let ended = run(alloc, input, out, &mut meta, meet);
+            let ended = run(alloc, input, out, trace, &mut meta, meet);
             Shipped {
                 status: ended.status,
                 meta,

@@ -1,5 +1,9 @@
+mod frees;
+mod traces;
+
 use super::*;
 use crate::status::OpenCause;
+use ms_model::Journals;
 use std::alloc::AllocError;
 use std::process::Abort;
 use std::test::Fail;
@@ -28,11 +32,43 @@ pool live 4096 deferred 0 vacant 1044480
 group 5
 ";
 
+const FIRST_TRACE: &str = "\
+trace 1 group 4
+metaslab 0 0 units 256 shift 12 held 0
+1 1 load
+2 1 grant 5 0 1
+3 1 collect 5
+4 1 settle 5
+end
+";
+
 const TOTALS_OF_EMPTY: &str = "\
 metaslab 0 0 live 0 deferred 0 vacant 256
 class normal live 0 deferred 0 vacant 1048576
 pool live 0 deferred 0 vacant 1048576
 group 4
+";
+
+const TRACE_OF_EMPTY: &str = "\
+trace 1 group 4
+metaslab 0 0 units 256 shift 12 held 0
+end
+";
+
+// One sync, and one whose record the device did not take.
+const TRACE_OF_SYNC: &str = "\
+trace 1 group 4
+metaslab 0 0 units 256 shift 12 held 0
+1 1 collect 5
+2 1 settle 5
+end
+";
+
+const TRACE_OF_FAULT: &str = "\
+trace 1 group 4
+metaslab 0 0 units 256 shift 12 held 0
+1 1 collect 5
+end
 ";
 
 /// More writes than any text here takes.
@@ -46,21 +82,34 @@ const NEVER: usize = usize::MAX;
 struct Failing {
     source: usize,
     sink: usize,
+    trace: usize,
     disk: usize,
 }
 
 const NOTHING_FAILS: Failing = Failing {
     source: NEVER,
     sink: NEVER,
+    trace: NEVER,
     disk: NEVER,
 };
 
-/// What a call answered, printed, and left on the pool device.
+/// What a call answered, printed, traced, and left on the pool device, and its journals.
 #[derive(Drop)]
 struct Left {
     status: Status,
     printed: Vec<u8>,
+    traced: Vec<u8>,
     device: Vec<u8>,
+    journals: Option<Journals>,
+}
+
+/// What a call is to answer, print, trace, and leave on the pool device.
+#[derive(Clone, Copy)]
+struct Wanted<'a> {
+    status: Status,
+    printed: &'a str,
+    traced: &'a str,
+    device: &'a [u8],
 }
 
 fn words_of(alloc: Global, text: &str) -> Result<Vec<String>, AllocError> {
@@ -109,7 +158,7 @@ fn call<R: Abort + Threads + Wait + Sync>(
     let words = words_of(alloc, words)?;
     let mut input = MemSource::new(alloc, text.as_bytes(), 8, &[failing.source])?;
     let mut out = sink(alloc, failing.sink)?;
-    let mut trace = sink(alloc, NEVER)?;
+    let mut trace = sink(alloc, failing.trace)?;
     let meta = disk(alloc, device, failing.disk)?;
     let devices = data_devices(alloc)?;
     assert!(rt; devices.len() == 16);
@@ -120,27 +169,59 @@ fn call<R: Abort + Threads + Wait + Sync>(
         status,
         meta,
         devices: _devices,
-        journals: _journals,
+        journals,
         lists: _lists,
     } = shipped;
     Ok(Left {
         status,
         printed: Vec::from_slice(alloc, out.taken())?,
+        traced: Vec::from_slice(alloc, trace.taken())?,
         device: Vec::from_slice(alloc, meta.bytes())?,
+        journals,
     })
+}
+
+/// Makes a call of which nothing fails, and compares what it left.
+fn leaves<R: Abort + Threads + Wait + Sync>(
+    rt: &R,
+    alloc: Global,
+    words: &str,
+    text: &str,
+    device: &[u8],
+    want: Wanted<'_>,
+) -> Result<(), Fail> {
+    let left = call(rt, alloc, words, text, device, NOTHING_FAILS)?;
+    assert_eq!(rt; left.status, want.status, "for {words}: {text}");
+    assert_eq!(rt;
+        left.printed.as_slice(),
+        want.printed.as_bytes(),
+        "for {words}: {text}"
+    );
+    assert_eq!(rt;
+        left.traced.as_slice(),
+        want.traced.as_bytes(),
+        "for {words}: {text}"
+    );
+    assert_eq!(rt; left.device.as_slice(), want.device, "for {words}: {text}");
+    Ok(())
 }
 
 #[test]
 fn a_pool_is_created_and_run(rt: HostRuntime) -> Result<(), Fail> {
-    let alloc = rt.alloc();
-    let created = call(&rt, alloc, CREATE, "", b"", NOTHING_FAILS)?;
-    assert_eq!(rt; created.status, Status::Done);
-    assert_eq!(rt; created.printed.as_slice(), b"created group 4\n".as_slice());
-    assert_eq!(rt; created.device.as_slice(), EMPTY);
-    let ran = call(&rt, alloc, RUN, FIRST_TEXT, &created.device, NOTHING_FAILS)?;
-    assert_eq!(rt; ran.status, Status::Done);
-    assert_eq!(rt; ran.printed.as_slice(), FIRST_PRINTED.as_bytes());
-    assert_eq!(rt; ran.device.as_slice(), WITH_UNIT_0);
+    let created = Wanted {
+        status: Status::Done,
+        printed: "created group 4\n",
+        traced: "",
+        device: EMPTY,
+    };
+    leaves(&rt, rt.alloc(), CREATE, "", b"", created)?;
+    let ran = Wanted {
+        status: Status::Done,
+        printed: FIRST_PRINTED,
+        traced: FIRST_TRACE,
+        device: WITH_UNIT_0,
+    };
+    leaves(&rt, rt.alloc(), RUN, FIRST_TEXT, EMPTY, ran)?;
     Ok(())
 }
 
@@ -151,47 +232,59 @@ fn sizes_that_are_not_granted(rt: HostRuntime) -> Result<(), Fail> {
 1 alloc b 16777216 normal 1
 1 alloc c 16777217 normal 1
 ";
-    let want = "\
+    let replies = "\
 1 alloc a badsize
 1 alloc b nospace 1
 1 alloc c badsize
 ";
-    let ran = call(&rt, rt.alloc(), RUN, text, EMPTY, NOTHING_FAILS)?;
-    assert_eq!(rt; ran.status, Status::Done);
-    let want = format!(in rt.alloc(); "{want}{TOTALS_OF_EMPTY}")?;
-    assert_eq!(rt; ran.printed.as_slice(), want.as_bytes());
-    assert_eq!(rt; ran.device.as_slice(), EMPTY);
-    Ok(())
+    let traced = "\
+trace 1 group 4
+metaslab 0 0 units 256 shift 12 held 0
+1 1 load
+2 1 miss 4096
+end
+";
+    let printed = format!(in rt.alloc(); "{replies}{TOTALS_OF_EMPTY}")?;
+    let want = Wanted {
+        status: Status::Done,
+        printed: printed.as_str(),
+        traced,
+        device: EMPTY,
+    };
+    leaves(&rt, rt.alloc(), RUN, text, EMPTY, want)
 }
 
 #[test]
 fn ends_that_leave_the_device_as_it_was(rt: HostRuntime) -> Result<(), Fail> {
     let already = PoolCause::AlreadyPool { newest: Group(4) };
+    let already = Status::NotAPool { cause: already };
     let no_slot = PoolCause::Open(OpenCause::NoSlot);
+    let no_slot = Status::NotAPool { cause: no_slot };
     let no_class = "1 alloc a 4096 normal 1\n1 sync\n1 alloc b 4096 1\n";
+    let bad = Status::BadText { line: 3 };
     let rows = [
-        (RUN, "", EMPTY, Status::Done, TOTALS_OF_EMPTY),
-        (RUN, no_class, EMPTY, Status::BadText { line: 3 }, ""),
-        (CREATE, "", EMPTY, Status::NotAPool { cause: already }, ""),
         (
             RUN,
-            "1 sync\n",
-            &[],
-            Status::NotAPool { cause: no_slot },
             "",
+            EMPTY,
+            Status::Done,
+            TOTALS_OF_EMPTY,
+            TRACE_OF_EMPTY,
         ),
-        ("report p", "1 sync\n", EMPTY, Status::Usage, ""),
-        ("run P", "1 sync\n", EMPTY, Status::Usage, ""),
+        (RUN, no_class, EMPTY, bad, "", ""),
+        (CREATE, "", EMPTY, already, "", ""),
+        (RUN, "1 sync\n", &[], no_slot, "", ""),
+        ("report p", "1 sync\n", EMPTY, Status::Usage, "", ""),
+        ("run P", "1 sync\n", EMPTY, Status::Usage, "", ""),
     ];
-    for (words, text, device, status, printed) in rows {
-        let left = call(&rt, rt.alloc(), words, text, device, NOTHING_FAILS)?;
-        assert_eq!(rt; left.status, status, "for {words}: {text}");
-        assert_eq!(rt;
-            left.printed.as_slice(),
-            printed.as_bytes(),
-            "for {words}: {text}"
-        );
-        assert_eq!(rt; left.device.as_slice(), device, "for {words}: {text}");
+    for (words, text, device, status, printed, traced) in rows {
+        let want = Wanted {
+            status,
+            printed,
+            traced,
+            device,
+        };
+        leaves(&rt, rt.alloc(), words, text, device, want)?;
     }
     Ok(())
 }
@@ -206,6 +299,7 @@ fn a_failing_call_of_a_creation_is_told(rt: HostRuntime) -> Result<(), Fail> {
         };
         let left = call(&rt, rt.alloc(), CREATE, "", b"", failing)?;
         assert_eq!(rt; left.status, Status::DeviceFault, "for {failing:?}");
+        assert!(rt; left.traced.is_empty(), "for {failing:?}");
     }
     let failing = Failing {
         disk: 3,
@@ -219,26 +313,32 @@ fn a_failing_call_of_a_creation_is_told(rt: HostRuntime) -> Result<(), Fail> {
 #[test]
 fn a_failing_call_of_a_run_is_told(rt: HostRuntime) -> Result<(), Fail> {
     let none = NOTHING_FAILS;
+    let fault = Status::DeviceFault;
     let rows = [
-        (Failing { source: 0, ..none }, Status::ReadFault),
-        (Failing { source: 1, ..none }, Status::ReadFault),
-        (Failing { source: 2, ..none }, Status::Done),
+        (Failing { source: 0, ..none }, Status::ReadFault, ""),
+        (Failing { source: 1, ..none }, Status::ReadFault, ""),
+        (Failing { source: 2, ..none }, Status::Done, TRACE_OF_SYNC),
         // The head and the bits are read, and the record is written and flushed.
-        (Failing { disk: 0, ..none }, Status::DeviceFault),
-        (Failing { disk: 1, ..none }, Status::DeviceFault),
-        (Failing { disk: 2, ..none }, Status::DeviceFault),
-        (Failing { disk: 3, ..none }, Status::DeviceFault),
-        (Failing { disk: 4, ..none }, Status::Done),
+        (Failing { disk: 0, ..none }, fault, ""),
+        (Failing { disk: 1, ..none }, fault, ""),
+        (Failing { disk: 2, ..none }, fault, TRACE_OF_FAULT),
+        (Failing { disk: 3, ..none }, fault, TRACE_OF_FAULT),
+        (Failing { disk: 4, ..none }, Status::Done, TRACE_OF_SYNC),
     ];
-    for (failing, status) in rows {
+    for (failing, status, traced) in rows {
         let left = call(&rt, rt.alloc(), RUN, "1 sync\n", EMPTY, failing)?;
         assert_eq!(rt; left.status, status, "for {failing:?}");
+        assert_eq!(rt;
+            left.traced.as_slice(),
+            traced.as_bytes(),
+            "for {failing:?}"
+        );
     }
     Ok(())
 }
 
-/// Makes each write to the sink fail in turn, as many as there are: each is told, and what was printed is a beginning of
-/// the text.
+/// Makes each write to the sink fail in turn, as many as there are: each is told, what was printed is a beginning of the
+/// text, and nothing is traced.
 fn each_write_fails<R: Abort + Threads + Wait + Sync>(
     rt: &R,
     alloc: Global,
@@ -261,6 +361,7 @@ fn each_write_fails<R: Abort + Threads + Wait + Sync>(
             printed.as_bytes().starts_with(&left.printed),
             "for write {sink}"
         );
+        assert!(rt; left.traced.is_empty(), "for write {sink}");
     }
     Err(Fail::new("more writes than this test makes fail"))
 }
@@ -284,6 +385,7 @@ fn a_pool_with_a_fault_is_suspended(rt: HostRuntime) -> Result<(), Fail> {
     let want = format!(in rt.alloc(); "{want}{TOTALS_OF_EMPTY}")?;
     assert_eq!(rt; ran.status, Status::DeviceFault);
     assert_eq!(rt; ran.printed.as_slice(), want.as_bytes());
+    assert_eq!(rt; ran.traced.as_slice(), TRACE_OF_FAULT.as_bytes());
     Ok(())
 }
 

@@ -8,7 +8,10 @@ use Rattle.zms_top.specs.declared.replies.Reply.{Reply}
 use Rattle.ms_core.specs.State.{origin_of}
 use Rattle.zms_top.specs.Answers.{paired}
 use Rattle.zms_top.specs.Backing.{AreIntervals}
+use Rattle.zms_top.specs.Naming.{Learns, AreNamed}
+use Rattle.zms_top.specs.Sound.{ground_of}
 use Rattle.zms_top.specs.Running.{HasRun, answers_of}
+use Rattle.zms_top.proofs.NamingLemmas.{named_none, named_push}
 use Rattle.zms_top.specs.Script.{IsCommand}
 use Rattle.zms_top.proofs.SyncSteps.{stays_both}
 use Rattle.zms_top.proofs.RunLemmas.{run_none, run_more, kept_none, kept_both, intervals_push, answers-push, paired-push, idle_before}
@@ -19,6 +22,7 @@ loop-command-init g c =
     let empty = c.in_ok-replies.ensures.items in
     record {
       each = ap length empty;
+      named = named_none (ground_of (origin_of c.args.pool.now.metaslab)) c.new-blocks.result c.new-blocks.ensures.empty;
       ran = run_none c.args.pool.now c.requires.pool c.requires.fresh;
       intervals = subst (λ l. AreIntervals (g.D.Disk.faults c.args.disk.now) (g.D.Disk.faults c.args.disk.now) (answers_of l)) (sym empty) (omega arith);
       kept = λ tells idle. kept_none _ _ (g.D.Disk.state c.args.disk.now) tells;
@@ -38,11 +42,14 @@ loop-command-preserved g c =
     let items : c.push.new.self.items ≡ c.loop-command.replies.items ++ reply ∷ [] = c.in_ok-push.ensures.items in
     let is_command : IsCommand c.command-item.result = subst IsCommand (sym c.command-item.is) (All-get_or IsCommand c.args.commands.now i item c.loop-command-test.true c.requires.commands) in
     let did = c.in_ok-answer.ensures in
-    let run = run_more c.args.pool.now c.loop-command.pool c.run_command.new.pool done item c.in_ok-answer.answer was.ran is_command.lane (did.acted done was.ran.fault) did.first in
-    let pairs = ap (λ l. paired (take (i + 1) c.args.commands.now) l) items ∙ paired-push c.args.commands.now rs i item reply c.loop-command-test.true was.each c.command-item.is in
     let origin : origin_of c.loop-command.pool.metaslab ≡ origin_of c.args.pool.now.metaslab = ap origin_of was.ran.stays in
+    let named : AreNamed (ground_of (origin_of c.loop-command.pool.metaslab)) done c.loop-command.blocks = subst (λ (o : Origin). AreNamed (ground_of o) done c.loop-command.blocks) (sym origin) was.named in
+    let learns : Learns (ground_of (origin_of c.args.pool.now.metaslab)) item.what c.in_ok-answer.answer c.loop-command.blocks c.run_command.new.blocks = subst (λ (o : Origin). Learns (ground_of o) item.what c.in_ok-answer.answer c.loop-command.blocks c.run_command.new.blocks) origin did.learns in
+    let run = run_more c.args.pool.now c.loop-command.pool c.run_command.new.pool done item c.in_ok-answer.answer was.ran is_command.lane (did.acted done was.ran.fault named) did.first in
+    let pairs = ap (λ l. paired (take (i + 1) c.args.commands.now) l) items ∙ paired-push c.args.commands.now rs i item reply c.loop-command-test.true was.each c.command-item.is in
     record {
       each = ap length items ∙ (length-append rs (reply ∷ []) ∙ ap (λ n. n + 1) was.each);
+      named = subst (λ l. AreNamed (ground_of (origin_of c.args.pool.now.metaslab)) l c.run_command.new.blocks) (sym pairs) (named_push (ground_of (origin_of c.args.pool.now.metaslab)) done item reply c.loop-command.blocks c.run_command.new.blocks was.named learns);
       ran = subst (λ l. HasRun c.args.pool.now c.run_command.new.pool l) (sym pairs) run;
       intervals = subst (λ l. AreIntervals (g.D.Disk.faults c.args.disk.now) (g.D.Disk.faults c.run_command.new.disk) l) (sym (ap answers_of items ∙ answers-push rs reply))
           (intervals_push _ _ _ (answers_of rs) c.in_ok-answer.answer was.intervals did.intervals);

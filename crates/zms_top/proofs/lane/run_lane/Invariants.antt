@@ -4,12 +4,15 @@ use Rattle.zms_dev.specs.Disk.{Tells}
 use Rattle.zms_top.specs.Answers.{paired}
 use Rattle.zms_top.specs.Backing.{AreIntervals}
 use Rattle.zms_top.specs.Acting.{IsKept}
+use Rattle.zms_top.specs.Naming.{AreNamed}
+use Rattle.zms_top.specs.Sound.{ground_of}
 use Rattle.zms_top.specs.Running.{HasRun, answers_of}
 use Rattle.zms_top.proofs.lane.run_lane.Given as goal
 
 abbrev pub invariant-loop-command : goal.invariant-loop-command
 invariant-loop-command g l = record {
   each : length l.replies.items ≡ l.command-index;
+  named : AreNamed (ground_of (origin_of l.fn.pool.metaslab)) (paired (take l.command-index l.commands) l.replies.items) l.blocks;
   ran : HasRun l.fn.pool l.pool (paired (take l.command-index l.commands) l.replies.items);
   intervals : AreIntervals (g.D.Disk.faults l.fn.disk) (g.D.Disk.faults l.disk) (answers_of l.replies.items);
   kept : Tells (g.D.Disk.state l.fn.disk) → l.pool.first ≡ None → IsKept (origin_of l.fn.pool.metaslab) l.fn.pool.metaslab.notes l.pool.metaslab.notes (g.D.Disk.state l.fn.disk) (g.D.Disk.state l.disk);

@@ -1,5 +1,5 @@
 use Rattle.std.proofs.Common.{sym}
-use Rattle.zms_top.proofs.PrintLemmas.{printed_first, prints_failed_first, prints_tail}
+use Rattle.trace_text.proofs.Printing.{printed_first, prints_failed_first, prints_tail}
 use Rattle.zms_top.proofs.TallyLemmas.{class_line_is}
 use Rattle.zms_top.proofs.printing.write_class.Goals as goal
 

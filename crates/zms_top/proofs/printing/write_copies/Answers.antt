@@ -1,5 +1,5 @@
 use Rattle.zms_top.specs.Texts.{copy_text}
-use Rattle.zms_top.proofs.PrintLemmas.{printed_none, printed_more, prints_failed, prints_all, flat_map-more, flat_map-split, flat_map-all}
+use Rattle.trace_text.proofs.Printing.{printed_none, printed_more, prints_failed, prints_all, flat_map-more, flat_map-split, flat_map-all}
 use Rattle.zms_top.proofs.printing.write_copies.Goals as goal
 
 pub loop-dva-init : goal.loop-dva-init

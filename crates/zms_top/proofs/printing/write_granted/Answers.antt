@@ -1,7 +1,8 @@
 use Rattle.std.specs.Prelude.{codes, decimal}
 use Rattle.std.specs.List.{flat_map}
 use Rattle.zms_top.specs.Texts.{copy_text}
-use Rattle.zms_top.proofs.PrintLemmas.{printed_first, prints_failed_first, prints_tail, two_pieces}
+use Rattle.trace_text.proofs.Printing.{printed_first, prints_failed_first, prints_tail}
+use Rattle.zms_top.proofs.PrintLemmas.{two_pieces}
 use Rattle.zms_top.proofs.printing.write_granted.Goals as goal
 
 pub returns-in_err-write_pieces : goal.returns-in_err-write_pieces

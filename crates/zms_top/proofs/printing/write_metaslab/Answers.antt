@@ -1,7 +1,8 @@
 use Rattle.std.proofs.Common.{[], ◌∷◌}
 use Rattle.std.specs.Prelude.{codes, decimal}
 use Rattle.zms_top.specs.Texts.{counts_text}
-use Rattle.zms_top.proofs.PrintLemmas.{printed_first, prints_failed_first, prints_tail, metaslab_pieces}
+use Rattle.trace_text.proofs.Printing.{printed_first, prints_failed_first, prints_tail}
+use Rattle.zms_top.proofs.PrintLemmas.{metaslab_pieces}
 use Rattle.zms_top.proofs.printing.write_metaslab.Goals as goal
 
 pub returns-in_err-write_pieces : goal.returns-in_err-write_pieces

@@ -1,5 +1,5 @@
 use Rattle.zms_top.specs.Texts.{metaslab_text}
-use Rattle.zms_top.proofs.PrintLemmas.{printed_none, printed_more, prints_failed, prints_all, flat_map-item_more, flat_map-item_split, flat_map-all}
+use Rattle.trace_text.proofs.Printing.{printed_none, printed_more, prints_failed, prints_all, flat_map-item_more, flat_map-item_split, flat_map-all}
 use Rattle.zms_top.proofs.printing.write_metaslabs.Goals as goal
 
 pub loop-tally-init : goal.loop-tally-init

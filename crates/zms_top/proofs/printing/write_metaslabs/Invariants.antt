@@ -1,7 +1,7 @@
 use Rattle.std.proofs.Common.{take}
 use Rattle.std.specs.List.{flat_map}
 use Rattle.zms_top.specs.Texts.{metaslab_text}
-use Rattle.zms_top.proofs.PrintLemmas.{Printed}
+use Rattle.trace_text.proofs.Printing.{Printed}
 use Rattle.zms_top.proofs.printing.write_metaslabs.Given as goal
 
 abbrev pub invariant-loop-tally : goal.invariant-loop-tally

@@ -1,6 +1,7 @@
 use Rattle.std.specs.Prelude.{codes, None}
 use Rattle.zms_top.specs.Texts.{sums_text}
-use Rattle.zms_top.proofs.PrintLemmas.{printed_first, prints_failed_first, prints_tail, one_piece}
+use Rattle.trace_text.proofs.Printing.{printed_first, prints_failed_first, prints_tail}
+use Rattle.zms_top.proofs.PrintLemmas.{one_piece}
 use Rattle.zms_top.proofs.printing.write_pool.Goals as goal
 
 pub returns-in_err-write_pieces : goal.returns-in_err-write_pieces

@@ -1,7 +1,7 @@
 use Rattle.std.proofs.Common.{◌≤◌, length, arith}
 use Rattle.zms_top.specs.Answers.{paired}
 use Rattle.zms_top.specs.Texts.{reply_text}
-use Rattle.zms_top.proofs.PrintLemmas.{printed_none, printed_more, prints_failed, prints_all, flat_map-all}
+use Rattle.trace_text.proofs.Printing.{printed_none, printed_more, prints_failed, prints_all, flat_map-all}
 use Rattle.zms_top.proofs.PairLemmas.{length-paired, replies_more, replies_split}
 use Rattle.zms_top.proofs.printing.write_replies.Goals as goal
 

@@ -2,7 +2,7 @@ use Rattle.std.proofs.Common.{take}
 use Rattle.std.specs.List.{flat_map}
 use Rattle.zms_top.specs.Answers.{paired}
 use Rattle.zms_top.specs.Texts.{reply_text}
-use Rattle.zms_top.proofs.PrintLemmas.{Printed}
+use Rattle.trace_text.proofs.Printing.{Printed}
 use Rattle.zms_top.proofs.printing.write_replies.Given as goal
 
 abbrev pub invariant-loop-at : goal.invariant-loop-at

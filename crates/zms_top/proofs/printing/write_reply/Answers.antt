@@ -1,7 +1,8 @@
 use Rattle.std.proofs.Common.{refl}
 use Rattle.std.specs.Prelude.{decimal}
 use Rattle.zms_top.specs.Texts.{head_text, answer_text}
-use Rattle.zms_top.proofs.PrintLemmas.{printed_first, printed_more, prints_failed, prints_failed_first, prints_tail, line_as_far_as_lane, line_as_far_as_head, line_as_far_as_answer, line_all}
+use Rattle.trace_text.proofs.Printing.{printed_first, printed_more, prints_failed, prints_failed_first, prints_tail}
+use Rattle.zms_top.proofs.PrintLemmas.{line_as_far_as_lane, line_as_far_as_head, line_as_far_as_answer, line_all}
 use Rattle.zms_top.proofs.printing.write_reply.Goals as goal
 
 pub returns-in_err-write_pieces : goal.returns-in_err-write_pieces

@@ -1,5 +1,5 @@
 use Rattle.std.proofs.Common.{refl}
-use Rattle.zms_top.proofs.PrintLemmas.{printed_first, prints_failed_first, prints_tail}
+use Rattle.trace_text.proofs.Printing.{printed_first, prints_failed_first, prints_tail}
 use Rattle.zms_top.proofs.printing.write_run.Goals as goal
 
 pub returns-in_err-write_replies : goal.returns-in_err-write_replies

@@ -1,6 +1,6 @@
-use Rattle.std.proofs.Common.{refl}
+use Rattle.std.proofs.Common.{◌++◌, refl}
 use Rattle.zms_top.specs.Texts.{metaslab_lines, class_lines, pool_line, group_line}
-use Rattle.zms_top.proofs.PrintLemmas.{printed_first, printed_more, prints_failed, prints_failed_first, prints_tail, four_as_far_as_two, four_as_far_as_three}
+use Rattle.trace_text.proofs.Printing.{printed_first, printed_more, prints_failed, prints_failed_first, prints_tail, as_far_as_two, as_far_as_three}
 use Rattle.zms_top.proofs.printing.write_totals.Goals as goal
 
 pub returns-in_err-write_metaslabs : goal.returns-in_err-write_metaslabs
@@ -15,11 +15,11 @@ pub returns-in_err-write_pool : goal.returns-in_err-write_pool
 returns-in_err-write_pool g c =
     let one = printed_first _ _ _ _ _ _ _ c.write_metaslabs.ensures c.in_ok-write_metaslabs.was in
     let two = printed_more _ _ _ _ _ _ _ _ _ _ _ one c.write_classes.ensures c.in_ok-write_classes.was refl in
-    prints_failed _ _ _ _ _ _ _ _ _ _ _ _ _ two c.write_pool.ensures c.in_err-write_pool.was c.from_residual-in_err-write_pool.ensures.0 (four_as_far_as_two (metaslab_lines c.args.tallies.now) (class_lines c.args.tallies.now) (pool_line c.args.tallies.now) (group_line c.args.group.0))
+    prints_failed _ _ _ _ _ _ _ _ _ _ _ _ _ two c.write_pool.ensures c.in_err-write_pool.was c.from_residual-in_err-write_pool.ensures.0 (as_far_as_two (metaslab_lines c.args.tallies.now) (class_lines c.args.tallies.now) (pool_line c.args.tallies.now ++ group_line c.args.group.0))
 
 pub returns : goal.returns
 returns g c =
     let one = printed_first _ _ _ _ _ _ _ c.write_metaslabs.ensures c.in_ok-write_metaslabs.was in
     let two = printed_more _ _ _ _ _ _ _ _ _ _ _ one c.write_classes.ensures c.in_ok-write_classes.was refl in
     let three = printed_more _ _ _ _ _ _ _ _ _ _ _ two c.write_pool.ensures c.in_ok-write_pool.was refl in
-    prints_tail _ _ _ _ _ _ _ _ _ _ three c.write_group.ensures (four_as_far_as_three (metaslab_lines c.args.tallies.now) (class_lines c.args.tallies.now) (pool_line c.args.tallies.now) (group_line c.args.group.0))
+    prints_tail _ _ _ _ _ _ _ _ _ _ three c.write_group.ensures (as_far_as_three (metaslab_lines c.args.tallies.now) (class_lines c.args.tallies.now) (pool_line c.args.tallies.now) (group_line c.args.group.0))

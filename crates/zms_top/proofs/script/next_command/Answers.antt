@@ -1,7 +1,7 @@
 use Rattle.std.proofs.Common.{◌≡◌, ◌∙◌}
-use Rattle.zms_top.proofs.NameLemmas.{no_line, known_line, next_sync, next_alloc, was_known, was_new}
+use Rattle.zms_top.proofs.NameLemmas.{no_line, known_line, next_sync, next_free, next_alloc, was_known, was_new}
 use Rattle.zms_top.proofs.script.next_command.Goals as goal
-use Rattle.zms_top.proofs.script.next_command.Goals.{in-SyncLine, in-AllocLine+in_ok-add_name-in-AllocLine+else-not-branch+in_ok-from_str-in-AllocLine}
+use Rattle.zms_top.proofs.script.next_command.Goals.{in-SyncLine, in-FreeLine+in_ok-from_str-in-FreeLine, in-AllocLine+in_ok-add_name-in-AllocLine+else-not-branch+in_ok-from_str-in-AllocLine}
 
 pub returns-in_default-clause-none : goal.returns-in_default-clause-none
 returns-in_default-clause-none c = no_line c.args.names.now c.args.line.now c.in_default.ensures.none
@@ -18,6 +18,10 @@ returns-clause-some c =
       | in-SyncLine w ↦
           (let made = rw w.in-SyncLine.is at c.in-Some.ensures.some in
           rw w.names-is (rw w.what-is (next_sync c.args.names.now c.args.line.now c.args.number made.1)))
+      | in-FreeLine+in_ok-from_str-in-FreeLine w ↦
+          (let made = rw w.in-FreeLine.is at c.in-Some.ensures.some in
+          let name : w.from_string.result ≡ w.in-FreeLine.name.now = w.from_string.ensures ∙ w.in_ok-from_str-in-FreeLine.ensures.ok in
+          rw w.names-is (rw w.what-is (rw name (next_free c.args.names.now c.args.line.now w.in-FreeLine.name.now c.args.number made.0 made.1))))
       | in-AllocLine+in_ok-add_name-in-AllocLine+else-not-branch+in_ok-from_str-in-AllocLine w ↦
           (let made = rw w.in-AllocLine.is at c.in-Some.ensures.some in
           let name : w.from_string-name.result ≡ w.in-AllocLine.name.now = w.from_string-name.ensures ∙ w.in_ok-from_str-in-AllocLine.ensures.ok in

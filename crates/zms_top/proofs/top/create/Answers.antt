@@ -6,7 +6,7 @@ use Rattle.zms_top.proofs.top.create.Goals as goal
 pub returns-in-Ok-None : goal.returns-in-Ok-None
 returns-in-Ok-None g c =
     let read = rw c.in-Ok-None.field-0-is at c.in-Ok-None.ensures in
-    create_ends c.args.units _ _ _ _ (g.D.Disk.state c.args.disk.now) (g.D.Disk.state c.read.new.disk) (g.D.Disk.state c.write_new.new.disk) _ _ _ _
+    create_ends c.args.units _ _ (g.D.Disk.state c.args.disk.now) (g.D.Disk.state c.read.new.disk) (g.D.Disk.state c.write_new.new.disk) _ _ _ _
     read.record (λ tells. unwritten (g.D.Disk.state c.args.disk.now) (g.D.Disk.state c.read.new.disk) (read.rests tells)) read.later c.write_new.ensures
 
 pub returns-in-Ok-Some : goal.returns-in-Ok-Some

@@ -1,0 +1,160 @@
+-- A step of a lane at the metaslab, under a hold of the open group: it leaves the pool sound, and is a part of the lane's events.
+use Rattle.std.proofs.Common.{◌≡◌, ℕ, ◌<◌, ◌≤◌, Bool, false, cond, Option, List, [], ◌∷◌, ◌++◌, zero, suc, refl, sym, ◌∙◌, ap, subst, arith}
+use Rattle.std.specs.Prelude.{◌==◌}
+use Rattle.std.proofs.Math.Dec.{eqb-suc-zero}
+use Rattle.std.proofs.lemmas.List.{append-nil}
+use Rattle.zms_units.specs.declared.faults.First.{First}
+use Rattle.zms_units.specs.declared.segments.Group.{Group}
+use Rattle.zms_units.specs.declared.segments.Seg.{Seg}
+use Rattle.ms_model.specs.Origin.{Origin}
+use Rattle.zms_units.specs.Segments.{covered}
+use Rattle.ms_model.specs.Units.{is_loaded, held, settled_group, collected_group}
+use Rattle.ms_model.specs.Legal.{MayDo}
+use Rattle.ms_model.specs.Gates.{open_group}
+use Rattle.ms_model.specs.Steps.{Step, look, noting, Quiet, Follows}
+use Rattle.ms_model.specs.Parts.{right_of, gate_right}
+use Rattle.ms_model.specs.Events.{Event, at_gate, at_metaslab}
+use Rattle.ms_model.specs.declared.notes.Act.{Act}
+use Rattle.ms_model.specs.declared.notes.Act.TheVariants.{Load}
+use Rattle.ms_model.specs.declared.notes.Noted.{Noted}
+use Rattle.ms_model.specs.declared.notes.GateNote.{GateNote}
+use Rattle.ms_model.proofs.Held.{ChangesUpTo, held-quiet, held-as_opened}
+use Rattle.ms_model.proofs.Overlaps.{settled_le_collected}
+use Rattle.ms_model.proofs.Steps.{quiet_none}
+use Rattle.ms_core.specs.State.{MsState, origin_of, settled_of, StaysButNotes}
+use Rattle.zms_top.specs.Record.{is_set}
+use Rattle.zms_top.specs.Acting.{Acted, IsPool, LeavesSettled}
+use Rattle.zms_top.specs.declared.pool.Pool.{Pool}
+use Rattle.zms_top.specs.Sound.{IsSound, Loads, loaded, loads}
+use Rattle.zms_top.proofs.Sounding.{LeavesGroups, sound_note, settled_note, collected_note}
+
+-- a note of the keeper's is quiet for a lane
+pub quiet_keeper : (lane : ℕ) (h : List Noted) (by : ℕ) (act : Act) → right_of (record { lane = by; act = act }) ≡ 0 → 1 ≤ lane
+    → Quiet right_of lane h (h ++ record { lane = by; act = act } ∷ [])
+quiet_keeper lane h by act is some = record {
+  more = record { lane = by; act = act } ∷ [];
+  is = refl;
+  none = ap (λ b. cond b (record { lane = by; act = act } ∷ []) []) (ap (λ r. lane == r) is ∙ other lane some);
+} where
+  other : (lane : ℕ) → 1 ≤ lane → (lane == 0) ≡ false
+  other zero some = absurd (omega arith)
+  other (suc n) some = eqb-suc-zero n
+
+pub loads_quiet : (lane : ℕ) (h j : List Noted) → 1 ≤ lane → Loads lane h j → Quiet right_of lane h j
+loads_quiet lane h j some (loaded is) = quiet_none right_of lane h
+loads_quiet lane h j some (loads is) = quiet_keeper lane h lane Load refl some
+
+sound_loads : (o : Origin) (lane : ℕ) (h j : List Noted) (g : List GateNote) (set : ℕ → Bool) (first : Option First)
+    → IsSound o h g set first → Loads lane h j → IsSound o j g set first
+sound_loads o lane h j g set first was (loaded is) = was
+sound_loads o lane h j g set first was (loads is) = sound_note o h g set first lane Load was is tt (λ x. x)
+
+settled_loads : (o : Origin) (lane : ℕ) (h j : List Noted) → Loads lane h j → settled_group o j ≡ settled_group o h
+settled_loads o lane h j (loaded is) = refl
+settled_loads o lane h j (loads is) = settled_note o h lane Load tt
+
+held_loads : (o : Origin) (lane : ℕ) (h j : List Noted) (t u : ℕ) → Loads lane h j → held o j t u ≡ held o h t u
+held_loads o lane h j t u (loaded is) = refl
+held_loads o lane h j t u (loads is) = held-quiet o h (record { lane = lane; act = Load }) t u (λ x. x)
+
+pub collected_loads : (o : Origin) (lane : ℕ) (h j : List Noted) → Loads lane h j → collected_group o j ≡ collected_group o h
+collected_loads o lane h j (loaded is) = refl
+collected_loads o lane h j (loads is) = collected_note o h lane Load tt
+
+-- what a step leaves: the pool sound, what is settled as it was, and one step of the lane in the metaslab's journal
+pub record StepLeaves (o : Origin) (lane : ℕ) (step : Step Noted) (h new : List Noted) (g : List GateNote) (set : ℕ → Bool) (first : Option First) : Type 0 where
+  pub sound : IsSound o new g set first
+  pub group_stays : settled_group o new ≡ settled_group o h
+  pub held_stays : (u : ℕ) → held o new (settled_group o h) u ≡ held o h (settled_group o h) u
+  pub follows : Follows right_of lane h (step ∷ []) new
+
+-- a look without a note, at a metaslab that was loaded first where it needed to be
+pub look_leaves : (o : Origin) (lane : ℕ) (h before : List Noted) (g : List GateNote) (set : ℕ → Bool) (first : Option First)
+    → 1 ≤ lane → IsSound o h g set first → Loads lane h before → StepLeaves o lane (look before) h before g set first
+look_leaves o lane h before g set first some was in_memory = record {
+  sound = sound_loads o lane h before g set first was in_memory;
+  group_stays = settled_loads o lane h before in_memory;
+  held_stays = λ u. held_loads o lane h before (settled_group o h) u in_memory;
+  follows = (loads_quiet lane h before some in_memory, (tt, subst (λ l. Quiet right_of lane l before) (sym (append-nil before)) (quiet_none right_of lane before)));
+}
+
+-- a note of the lane's, of a group above the settled one
+pub note_leaves : (o : Origin) (lane : ℕ) (act : Act) (h before new : List Noted) (g : List GateNote) (set : ℕ → Bool) (first : Option First)
+    → 1 ≤ lane → IsSound o h g set first → Loads lane h before → new ≡ before ++ record { lane = lane; act = act } ∷ [] → MayDo o before lane act
+    → LeavesGroups act → right_of (record { lane = lane; act = act }) ≡ lane → (ChangesUpTo (settled_group o h) act → ⊥)
+    → StepLeaves o lane (noting before (record { lane = lane; act = act })) h new g set first
+note_leaves o lane act h before new g set first some was in_memory is may leaves right above =
+    let note : Noted = record { lane = lane; act = act } in
+    let mid : StepLeaves o lane (look before) h before g set first = look_leaves o lane h before g set first some was in_memory in
+    let quiet : ChangesUpTo (settled_group o before) act → ⊥ = rw mid.group_stays above in
+    let step : IsSound o (before ++ note ∷ []) g set first = sound_note o before g set first lane act mid.sound may leaves quiet in
+    record {
+      sound = subst (λ l. IsSound o l g set first) (sym is) step;
+      group_stays = ap (settled_group o) is ∙ (settled_note o before lane act leaves ∙ mid.group_stays);
+      held_stays = λ u.
+          ap (λ l. held o l (settled_group o h) u) is ∙ (held-quiet o before note (settled_group o h) u above ∙ mid.held_stays u);
+      follows = (loads_quiet lane h before some in_memory, (right, subst (Quiet right_of lane (before ++ note ∷ [])) (sym is) (quiet_none right_of lane (before ++ note ∷ []))));
+    }
+
+-- a lane that holds the open group while it looks
+looks_at_gate : (lane : ℕ) (g : List GateNote) → Follows gate_right lane g (look g ∷ look g ∷ []) g
+looks_at_gate lane g =
+    let still : Quiet gate_right lane (g ++ []) g = subst (λ l. Quiet gate_right lane l g) (sym (append-nil g)) (quiet_none gate_right lane g) in
+    (quiet_none gate_right lane g, (tt, (still, (tt, still))))
+
+-- from the pool's parts to the pool
+
+stepped_pool : (p : Pool) (n : List Noted) (r : ℕ) → IsPool p → IsSound (origin_of p.metaslab) n p.gate.notes (is_set p.record.bytes.items) p.first
+    → IsPool (record p { metaslab = record p.metaslab { notes = n; room = r } })
+stepped_pool p n r was sound = record {
+  least_units = was.least_units;
+  most_units = was.most_units;
+  shift = was.shift;
+  opened = was.opened;
+  base_is = was.base_is;
+  segs = was.segs;
+  record_units = was.record_units;
+  sound = sound;
+}
+
+-- the pool after a step, and what it is with regard to the pool before
+abbrev pub after_step : Pool → MsState → Pool
+after_step p m = record p { metaslab = m }
+
+pub record StepDid (p : Pool) (lane : ℕ) (line : List Event → Type 0) (m : MsState) : Type 0 where
+  pub acted : Acted p (after_step p m) lane line
+  pub leaves : LeavesSettled p (after_step p m)
+
+-- what a lane does at the gate and at the one metaslab
+abbrev pub step_events : List GateNote → Step Noted → List Event
+step_events g step = at_gate (look g) ∷ ((at_metaslab 0 step ∷ []) ++ (at_gate (look g) ∷ []))
+
+pub step_did : (p : Pool) (m : MsState) (lane : ℕ) (line : List Event → Type 0) (step : Step Noted) → IsPool p → StaysButNotes p.metaslab m
+    → StepLeaves (origin_of p.metaslab) lane step p.metaslab.notes m.notes p.gate.notes (is_set p.record.bytes.items) p.first
+    → line (step_events p.gate.notes step) → StepDid p lane line m
+step_did p m lane line step was stays leaves is =
+    subst (StepDid p lane line) (sym stays)
+    (record {
+      acted = record {
+        events = step_events p.gate.notes step;
+        tour = record { metaslab = leaves.follows; gate = looks_at_gate lane p.gate.notes };
+        line_is = is;
+        pool = stepped_pool p m.notes m.room was leaves.sound;
+        stays = refl;
+        rises = omega arith;
+      };
+      leaves = record { group = leaves.group_stays; units = leaves.held_stays; first = refl };
+    })
+
+-- the open group lies above the settled one
+pub above_settled : (p : Pool) (group : Group) → IsPool p → group.0 ≡ open_group p.gate.opened p.gate.notes → settled_of p.metaslab < group.0
+above_settled p group was is =
+    let open_is : group.0 ≡ open_group p.metaslab.opened p.gate.notes = rw (← was.opened) is in
+    omega (arith, open_is, was.sound.next, settled_le_collected (origin_of p.metaslab) p.metaslab.notes was.sound.legal)
+
+-- until it is loaded, the settled groups hold just the base
+pub base_held : (p : Pool) (runs : List Seg) (u : ℕ) → IsPool p → runs ≡ p.base.items → is_loaded p.metaslab.notes ≡ false
+    → covered runs u ≡ held (origin_of p.metaslab) p.metaslab.notes (settled_of p.metaslab) u
+base_held p runs u was are off =
+    ap (λ l. covered l u) (are ∙ was.base_is)
+    ∙ sym (held-as_opened (origin_of p.metaslab) p.metaslab.notes (settled_of p.metaslab) u was.sound.legal off was.sound.kept)

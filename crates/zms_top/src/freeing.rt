@@ -1,0 +1,75 @@
+//! The command `free`.
+
+ghost use Rattle.std.specs.Prelude.{◌≡◌, ℕ, ◌+◌, ◌<◌, ◌≤◌, false, IfOk, IfSome};
+ghost use Rattle.zms_units.specs.Segments.{covered, AreSegs};
+ghost use Rattle.ms_model.specs.Legal.{IsWithin};
+ghost use Rattle.ms_model.specs.Units.{held, is_loaded};
+ghost use Rattle.ms_core.specs.State.{origin_of, settled_of, collected_of, StaysButNotes};
+ghost use Rattle.zms_top.specs.Answers.{IsOfFree};
+ghost use Rattle.zms_top.specs.Backing.{FreeLine};
+ghost use Rattle.zms_top.specs.Naming.{copies_at};
+ghost use Rattle.zms_top.specs.Pooling.{IsGivenBack};
+ghost use Rattle.zms_top.specs.Sound.{ground_of};
+ghost use Rattle.zms_top.specs.Acting.{Acted, IsPool, LeavesSettled};
+
+use crate::Answer;
+use crate::look::load_first;
+use crate::pool::{ASHIFT, FIRST_METASLAB, Pool};
+use ms_core::{Metaslab, MsFault};
+use seg_trees::PlainTrees;
+use std::alloc::AllocError;
+use zms_units::{Group, Seg};
+
+/// Frees a segment, bringing free space into memory first where it is not there. Where some unit of it is not handed out
+/// in a group of at most this one, it frees nothing and answers the lowest such unit. After an error the metaslab may be
+/// loaded.
+fn give_back(
+    metaslab: &mut Metaslab<PlainTrees>,
+    base: &[Seg],
+    lane: u8,
+    group: Group,
+    seg: Seg,
+) -> Result<Option<u32>, AllocError>
+    requires lane { (1 ≤ lane) × (lane ≤ 16) }
+    requires above { collected_of metaslab.old < group.0 }
+    requires near { group.0 ≤ settled_of metaslab.old + 3 }
+    requires segment { IsWithin metaslab.old.units seg }
+    requires segs { AreSegs metaslab.old.units base.now }
+    requires held { is_loaded metaslab.old.notes ≡ false → (u : ℕ) → u < metaslab.old.units → covered base.now u ≡ held (origin_of metaslab.old) metaslab.old.notes (settled_of metaslab.old) u }
+    ensures given { IfOk result (λ refused. IsGivenBack (origin_of metaslab.old) lane group seg metaslab.old.notes metaslab.new.notes refused) }
+    ensures stays { StaysButNotes metaslab.old metaslab.new }
+{
+    load_first(metaslab, base, lane)?;
+    metaslab.ready()?;
+    match metaslab.free(lane, group, seg) {
+        Ok(()) => Ok(None),
+        Err(MsFault::NotLive { unit }) => Ok(Some(unit)),
+        Err(_) => unreachable!(),
+    }
+}
+
+/// Gives back the block that lies there, as `metaslab_free` does: `placed` is where the lane was granted it, if it was. Its
+/// units are vacant again from the second settle after that of the open group.
+pub(crate) fn free(pool: &mut Pool, lane: u8, placed: Option<Seg>) -> Result<Answer, AllocError>
+    requires pool { IsPool pool.old }
+    requires lane { (1 ≤ lane) × (lane ≤ 16) }
+    requires within { IfSome placed (IsWithin pool.old.metaslab.units) }
+    ensures acted { IfOk result (λ answer. Acted pool.old pool.new lane (FreeLine (ground_of (origin_of pool.old.metaslab)) lane (copies_at (ground_of (origin_of pool.old.metaslab)) placed) answer)) }
+    ensures leaves { IfOk result (λ answer. LeavesSettled pool.old pool.new) }
+    ensures answer { IfOk result IsOfFree }
+    // Whatever is answered.
+    ensures stays { StaysButNotes pool.old.metaslab pool.new.metaslab }
+    ensures gate { pool.new.gate.opened ≡ pool.old.gate.opened }
+{
+    let Some(seg) = placed else {
+        return Ok(Answer::NoName);
+    };
+    let group = pool.gate.open_group();
+    match give_back(&mut pool.metaslab, &pool.base, lane, group, seg)? {
+        None => Ok(Answer::Done { group }),
+        Some(unit) => Ok(Answer::NotLive {
+            vdev: FIRST_METASLAB.vdev,
+            offset: u64::from(unit) << ASHIFT,
+        }),
+    }
+}
