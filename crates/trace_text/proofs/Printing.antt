@@ -14,17 +14,17 @@ use Rattle.trace_text.specs.Printing.{Prints}
 pub record Printed (before now : Option (List ℕ)) (faults_before faults_now : ℕ) (text : List ℕ) : Type 0 where
   pub kind : is_some now ≡ is_some before
   pub whole : IsSome before → told now ≡ told before ++ text
-  pub later : faults_before ≤ faults_now
+  pub steady : faults_now ≡ faults_before
 
 pub printed_none : (a : Option (List ℕ)) (f : ℕ) → Printed a a f f []
-printed_none a f = record { kind = refl; whole = λ _. sym (append-nil _); later = omega arith }
+printed_none a f = record { kind = refl; whole = λ _. sym (append-nil _); steady = refl }
 
 pub printed_then : {T E : Type 0} (a b c : Option (List ℕ)) (f g h : ℕ) (xs ys : List ℕ) (x : T)
     → Printed a b f g xs → Prints {T = T} {E = E} b c g h ys (Ok x) → Printed a c f h (xs ++ ys)
 printed_then a b c f g h xs ys x first then = record {
   kind = then.kind ∙ first.kind;
   whole = λ tells. then.whole (first.kind ∙ tells) ∙ (ap (λ l. l ++ ys) (first.whole tells) ∙ append_assoc (told a) xs ys);
-  later = omega (arith, first.later, then.cause.later);
+  steady = then.steady ∙ first.steady;
 }
 
 rose_later : (f g h : ℕ) → f ≤ g → Rose g h → Rose f h
@@ -47,7 +47,8 @@ prints_ok a b f g xs x all = record {
   kind = all.kind;
   whole = all.whole;
   partly = λ tells. (length xs, all.whole tells ∙ ap (λ l. told a ++ l) (sym (take-length xs)));
-  cause = record { later = all.later; failed = tt };
+  steady = all.steady;
+  cause = record { later = omega (arith, all.steady); failed = tt };
 }
 
 partly_then : (old mid new xs ys zs : List ℕ) (n : ℕ) → mid ≡ old ++ xs → new ≡ mid ++ take n ys → (m : ℕ) × (new ≡ old ++ take m (xs ++ (ys ++ zs)))
@@ -65,7 +66,8 @@ prints_err a b c f g h xs ys zs text r s first then bad out e = rw e (record {
   kind = then.kind ∙ first.kind;
   whole = λ _. whole_at_err s _ out;
   partly = λ tells. let p = then.partly (first.kind ∙ tells) in partly_then _ _ _ xs ys zs p.0 (first.whole tells) p.1;
-  cause = cause_of f h s (omega (arith, first.later, then.cause.later)) (rose_later f g h first.later (rose_at_err g h r bad then.cause));
+  steady = whole_at_err s _ out;
+  cause = cause_of f h s (omega (arith, first.steady, then.cause.later)) (rose_later f g h (omega (arith, first.steady)) (rose_at_err g h r bad then.cause));
 })
 
 -- a `flat_map` as far as a loop has come, at one element more and at the end
@@ -119,6 +121,10 @@ tail_cause : {T E : Type 0} (r : Result T E) (f g h : ℕ) → f ≤ g → HasCa
 tail_cause (Ok x) f g h le cause = record { later = omega (arith, cause.later); failed = tt }
 tail_cause (Err y) f g h le cause = record { later = omega (arith, cause.later); failed = rose_later f g h le cause.failed }
 
+tail_steady : {T E : Type 0} (r : Result T E) (f g h : ℕ) → g ≡ f → OnOk r (h ≡ g) → OnOk r (h ≡ f)
+tail_steady (Ok x) f g h first then = then ∙ first
+tail_steady (Err y) f g h first then = tt
+
 pub prints_tail : {T E : Type 0} (a b c : Option (List ℕ)) (f g h : ℕ) (xs ys text : List ℕ) (r : Result T E)
     → Printed a b f g xs → Prints b c g h ys r → text ≡ xs ++ ys → Prints a c f h text r
 prints_tail a b c f g h xs ys text r first then e = rw e (record {
@@ -128,7 +134,8 @@ prints_tail a b c f g h xs ys text r first then e = rw e (record {
       let p = then.partly (first.kind ∙ tells) in
       let q = partly_then _ _ _ xs ys [] p.0 (first.whole tells) p.1 in
       (q.0, q.1 ∙ ap (λ l. told a ++ take q.0 (xs ++ l)) (append-nil ys));
-  cause = tail_cause r f g h first.later then.cause;
+  steady = tail_steady r f g h first.steady then.steady;
+  cause = tail_cause r f g h (omega (arith, first.steady)) then.cause;
 })
 
 -- a text of two parts

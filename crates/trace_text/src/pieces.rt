@@ -43,23 +43,23 @@ fn weight_digits(weight: u64) -> [u8; 16]
 }
 
 /// Writes one piece.
-fn write_piece<T: Sink>(trace: &mut T, piece: &Piece<'_>) -> Result<(), Failed>
-    ensures { Prints (T.taken trace.old) (T.taken trace.new) (T.faults trace.old) (T.faults trace.new) (piece_text piece.now) result }
+fn write_piece<T: Sink>(sink: &mut T, piece: &Piece<'_>) -> Result<(), Failed>
+    ensures { Prints (T.taken sink.old) (T.taken sink.new) (T.faults sink.old) (T.faults sink.new) (piece_text piece.now) result }
 {
     match piece {
-        Piece::Text(text) => write_whole(trace, text),
-        Piece::Number(n) => write_whole(trace, Buffer::new().format(*n).as_bytes()),
-        Piece::Weight(weight) => write_whole(trace, &weight_digits(*weight)),
+        Piece::Text(text) => write_whole(sink, text),
+        Piece::Number(n) => write_whole(sink, Buffer::new().format(*n).as_bytes()),
+        Piece::Weight(weight) => write_whole(sink, &weight_digits(*weight)),
     }
 }
 
 /// Writes one piece behind the other, and stops at the first that the sink doesn't take whole. Takes no memory. Linear in
 /// the bytes.
-pub fn write_pieces<T: Sink>(trace: &mut T, pieces: &[Piece<'_>]) -> Result<(), Failed>
-    ensures { Prints (T.taken trace.old) (T.taken trace.new) (T.faults trace.old) (T.faults trace.new) (flat_map piece_text pieces.now) result }
+pub fn write_pieces<T: Sink>(sink: &mut T, pieces: &[Piece<'_>]) -> Result<(), Failed>
+    ensures { Prints (T.taken sink.old) (T.taken sink.new) (T.faults sink.old) (T.faults sink.new) (flat_map piece_text pieces.now) result }
 {
     for piece in pieces {
-        write_piece(trace, piece)?;
+        write_piece(sink, piece)?;
     }
     Ok(())
 }

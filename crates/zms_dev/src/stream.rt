@@ -32,14 +32,15 @@ pub trait Sink {
     /// How often it has failed.
     ghost faults: { Self → ℕ };
 
-    /// Takes the first bytes of the piece, and answers how many. A call that failed takes none, and one that takes
-    /// none of a piece that is not empty counts as a fault.
+    /// Takes the first bytes of the piece, and answers how many. A call that failed takes none, one that takes none of a
+    /// piece that is not empty counts as a fault, and one that takes some is none.
     fn write(&mut self, bytes: &[u8]) -> Result<usize, Failed>
         // Whatever the sink does.
         ensures bound { IfOk result (λ n. n ≤ length bytes.now) }
         ensures bytes { IsSome (taken self.old) → IfOk result (λ n. told (taken self.new) ≡ told (taken self.old) ++ take n bytes.now) }
         ensures err { OnErr result (taken self.new ≡ taken self.old) }
         ensures none { IfOk result (λ n. n ≡ 0 → 0 < length bytes.now → Rose (faults self.old) (faults self.new)) }
+        ensures some { IfOk result (λ n. 0 < n → faults self.new ≡ faults self.old) }
         ensures kind { is_some (taken self.new) ≡ is_some (taken self.old) }
         ensures cause { HasCause (faults self.old) (faults self.new) result };
 }

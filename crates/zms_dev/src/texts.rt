@@ -47,11 +47,13 @@ impl From<Failed> for ReadError {
     }
 }
 
-/// Writes all the bytes, in as many calls as the sink needs. At `Err` it has taken some of the first of them.
+/// Writes all the bytes, in as many calls as the sink needs, none of which fails. At `Err` it has taken some of the first
+/// of them.
 pub fn write_whole<S: Sink>(sink: &mut S, bytes: &[u8]) -> Result<(), Failed>
     ensures whole { IsSome (S.taken sink.old) → OnOk result (told (S.taken sink.new) ≡ told (S.taken sink.old) ++ bytes.now) }
     ensures partly { IsSome (S.taken sink.old) → (n : ℕ) × (n ≤ length bytes.now) × (told (S.taken sink.new) ≡ told (S.taken sink.old) ++ take n bytes.now) }
     ensures kind { is_some (S.taken sink.new) ≡ is_some (S.taken sink.old) }
+    ensures steady { OnOk result (S.faults sink.new ≡ S.faults sink.old) }
     ensures cause { HasCause (S.faults sink.old) (S.faults sink.new) result }
 {
     let mut written = 0;

@@ -24,7 +24,7 @@ impl PoolFiles {
         Ok(PoolFiles {
             meta: FileDisk::new(rt, format!(in alloc; "{pool}.meta")?),
             devices: data_files(alloc, rt, pool)?,
-            trace: FileSink::new(rt, format!(in alloc; "{pool}.trace")?),
+            trace: FileSink::new(alloc, rt, format!(in alloc; "{pool}.trace")?)?,
         })
     }
 }

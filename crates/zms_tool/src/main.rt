@@ -64,13 +64,13 @@ fn write_rest(out: &mut StdoutSink, trace: &mut FileSink) -> Result<(), Failed>
     trace.flush()
 }
 
-/// How the program ends once the rest of what was to be printed and traced is written.
-fn after_printing(status: Status, printed: Result<(), Failed>) -> Status
-    ensures same { OnOk printed (result ≡ status) }
-    ensures earlier { OnErr printed (status ≢ Status.Done → result ≡ status) }
-    ensures lost { OnErr printed (status ≡ Status.Done → result ≡ Status.WriteFault) }
+/// How the program ends once the rest of what is printed and traced was written, or was not.
+fn after_writing(status: Status, written: Result<(), Failed>) -> Status
+    ensures same { OnOk written (result ≡ status) }
+    ensures earlier { OnErr written (status ≢ Status.Done → result ≡ status) }
+    ensures lost { OnErr written (status ≡ Status.Done → result ≡ Status.WriteFault) }
 {
-    match printed {
+    match written {
         Err(_) if status == Status::Done => Status::WriteFault,
         _ => status,
     }
@@ -101,7 +101,7 @@ fn main(rt: HostRuntime) -> ExitCode {
                 journals: _,
                 lists: _,
             } = shipped;
-            after_printing(status, write_rest(&mut out, &mut trace))
+            after_writing(status, write_rest(&mut out, &mut trace))
         }
         Err(status) => status,
     };

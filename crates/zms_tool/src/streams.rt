@@ -6,7 +6,7 @@ use crate::faults::Faults;
 use std::alloc::{AllocError, Global};
 use std::fs::File;
 use std::io;
-use std::io::{BufWriter, ErrorKind, LineWriter, Read, Write};
+use std::io::{BufWriter, ErrorKind, Read, Write};
 use zms_dev::{Failed, Sink, Source};
 
 /// Standard input. It does not tell the bytes that it has left.
@@ -82,11 +82,11 @@ impl<W: Write> Write for FailStop<W> {
     }
 }
 
-/// Standard output through a buffer, which is written out at each line's end. After a write that failed nothing more is
-/// written. It does not tell the bytes that it has taken.
+/// Standard output through a buffer, which is written out with each line's end. After a write that failed nothing more
+/// is written. It does not tell the bytes that it has taken.
 #[derive(Drop)]
 pub struct StdoutSink {
-    out: LineWriter<FailStop<std::rt::Stdout>>,
+    out: BufWriter<FailStop<std::rt::Stdout>>,
     faults: Faults,
 }
 
@@ -95,7 +95,7 @@ impl StdoutSink {
     pub fn new(alloc: Global, rt: HostRuntime) -> Result<Self, AllocError>
         ensures { IfOk result (λ s. s.faults.count ≡ 0) }
     {
-        match LineWriter::new(alloc, FailStop::new(rt.stdout())) {
+        match BufWriter::new(alloc, FailStop::new(rt.stdout())) {
             Ok(out) => Ok(StdoutSink {
                 out,
                 faults: Faults::NONE,
@@ -121,29 +121,61 @@ impl Sink for StdoutSink {
     ghost faults = { λ s. s.faults.count };
 
     fn write(&mut self, bytes: &[u8]) -> Result<usize, Failed> {
-        self.faults.noted(write_some(&mut self.out, bytes))
+        self.faults.noted(write_lines(&mut self.out, bytes))
     }
 }
 
-/// A file that is made, or written anew, when it takes the first byte, and is written through a buffer. After a write that
-/// failed nothing more is written. It does not tell the bytes that it has taken.
+/// A file that is made, or written anew, with the first bytes.
 #[derive(Drop)]
-pub struct FileSink {
+struct NewFile {
     rt: HostRuntime,
     path: String,
-    out: Option<BufWriter<FailStop<File>>>,
+    file: Option<File>,
+}
+
+impl Write for NewFile {
+    fn write(&mut self, bytes: &[u8]) -> io::Result<usize> {
+        if self.file.is_none() && !bytes.is_empty() {
+            self.file = Some(File::create(&self.rt, self.path.as_str())?);
+        }
+        match &mut self.file {
+            Some(file) => file.write(bytes),
+            None => Ok(0),
+        }
+    }
+
+    fn flush(&mut self) -> io::Result<()> {
+        match &mut self.file {
+            Some(file) => file.flush(),
+            None => Ok(()),
+        }
+    }
+}
+
+/// A file that is written through a buffer. It is made, or written anew, when the first bytes leave the buffer, or at
+/// the flush. After a write that failed nothing more is written. It does not tell the bytes that it has taken.
+#[derive(Drop)]
+pub struct FileSink {
+    file: BufWriter<FailStop<NewFile>>,
     faults: Faults,
 }
 
 impl FileSink {
-    pub fn new(rt: HostRuntime, path: String) -> Self
-        ensures { result.faults.count ≡ 0 }
+    /// Takes the memory of the buffer, which is the one thing that may fail.
+    pub fn new(alloc: Global, rt: HostRuntime, path: String) -> Result<Self, AllocError>
+        ensures { IfOk result (λ s. s.faults.count ≡ 0) }
     {
-        FileSink {
+        let file = NewFile {
             rt,
             path,
-            out: None,
-            faults: Faults::NONE,
+            file: None,
+        };
+        match BufWriter::new(alloc, FailStop::new(file)) {
+            Ok(file) => Ok(FileSink {
+                file,
+                faults: Faults::NONE,
+            }),
+            Err(_) => Err(AllocError),
         }
     }
 
@@ -152,37 +184,7 @@ impl FileSink {
         ensures ok { OnOk result (self.new.faults.count ≡ self.old.faults.count) }
         ensures cause { HasCause self.old.faults.count self.new.faults.count result }
     {
-        match &mut self.out {
-            Some(out) => self.faults.noted(out.flush()),
-            None => Ok(()),
-        }
-    }
-
-    // Makes the file, and takes the memory of its buffer: want of memory is a failure like any other. It is not tried again
-    // after a failure.
-    fn open(&mut self) -> io::Result<()>
-        ensures { self.new.faults ≡ self.old.faults }
-    {
-        if self.out.is_none() && self.faults.count == 0 {
-            let file = File::create(&self.rt, self.path.as_str())?;
-            self.out = Some(BufWriter::new(self.rt.alloc(), FailStop::new(file))?);
-        }
-        Ok(())
-    }
-
-    fn put(&mut self, bytes: &[u8]) -> io::Result<usize>
-        ensures bound { IfOk result (λ n. n ≤ length bytes.now) }
-        ensures none { IfOk result (λ n. n ≡ 0 → length bytes.now ≡ 0) }
-        ensures faults { self.new.faults ≡ self.old.faults }
-    {
-        if bytes.is_empty() {
-            return Ok(0);
-        }
-        self.open()?;
-        match &mut self.out {
-            Some(out) => write_some(out, bytes),
-            None => Err(ErrorKind::NotFound.into()),
-        }
+        self.faults.noted(self.file.flush())
     }
 }
 
@@ -194,8 +196,7 @@ impl Sink for FileSink {
     ghost faults = { λ s. s.faults.count };
 
     fn write(&mut self, bytes: &[u8]) -> Result<usize, Failed> {
-        let answer = self.put(bytes);
-        self.faults.noted(answer)
+        self.faults.noted(write_some(&mut self.file, bytes))
     }
 }
 
@@ -225,4 +226,16 @@ fn write_some<W: Write>(output: &mut W, bytes: &[u8]) -> io::Result<usize>
         }
     }
     Err(ErrorKind::Interrupted.into())
+}
+
+// Writes through a buffer, which is written out where the bytes that it took end a line.
+fn write_lines<W: Write>(output: &mut W, bytes: &[u8]) -> io::Result<usize>
+    ensures bound { IfOk result (λ n. n ≤ length bytes.now) }
+    ensures none { IfOk result (λ n. n ≡ 0 → length bytes.now ≡ 0) }
+{
+    let taken = write_some(output, bytes)?;
+    if bytes[..taken].ends_with(b"\n") {
+        output.flush()?;
+    }
+    Ok(taken)
 }

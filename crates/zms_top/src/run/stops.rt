@@ -18,7 +18,7 @@ fn disk(alloc: Global, bytes: &[u8]) -> Result<MemDisk, AllocError> {
     MemDisk::new(alloc, bytes, room, &[])
 }
 
-/// The group of the record that these bytes have, and how many of its units are held.
+/// The group of the record that these bytes have, and how many runs of held units it has.
 fn found(alloc: Global, bytes: &[u8]) -> Result<Option<(u64, usize)>, StoreFault> {
     let mut disk = disk(alloc, bytes)?;
     let Some(opened) = FirstRecord::read(alloc, &mut disk)? else {

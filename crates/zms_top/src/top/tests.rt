@@ -71,6 +71,9 @@ metaslab 0 0 units 256 shift 12 held 0
 end
 ";
 
+// The lines of the metaslab, the class, the pool and the group.
+const PIECES_OF_TOTALS: usize = 11 + 9 + 8 + 3;
+
 /// More writes than any text here takes.
 const MOST_WRITES: usize = 200;
 
@@ -93,13 +96,15 @@ const NOTHING_FAILS: Failing = Failing {
     disk: NEVER,
 };
 
-/// What a call answered, printed, traced, and left on the pool device, and its journals.
+/// What a call answered, printed, traced, and left on the pool device, how often its sinks failed, and its journals.
 #[derive(Drop)]
 struct Left {
     status: Status,
     printed: Vec<u8>,
     traced: Vec<u8>,
     device: Vec<u8>,
+    out_faults: u64,
+    trace_faults: u64,
     journals: Option<Journals>,
 }
 
@@ -146,7 +151,7 @@ fn data_devices(alloc: Global) -> Result<Vec<MemData>, AllocError> {
     Ok(devices)
 }
 
-/// One call over forms in memory.
+/// One call over forms in memory. Where it is done, no write to its sinks failed.
 fn call<R: Abort + Threads + Wait + Sync>(
     rt: &R,
     alloc: Global,
@@ -172,11 +177,17 @@ fn call<R: Abort + Threads + Wait + Sync>(
         journals,
         lists: _lists,
     } = shipped;
+    if status == Status::Done {
+        assert_eq!(rt; out.faults(), 0, "for {failing:?}");
+        assert_eq!(rt; trace.faults(), 0, "for {failing:?}");
+    }
     Ok(Left {
         status,
         printed: Vec::from_slice(alloc, out.taken())?,
         traced: Vec::from_slice(alloc, trace.taken())?,
         device: Vec::from_slice(alloc, meta.bytes())?,
+        out_faults: out.faults(),
+        trace_faults: trace.faults(),
         journals,
     })
 }
@@ -337,8 +348,8 @@ fn a_failing_call_of_a_run_is_told(rt: HostRuntime) -> Result<(), Fail> {
     Ok(())
 }
 
-/// Makes each write to the sink fail in turn, as many as there are: each is told, what was printed is a beginning of the
-/// text, and nothing is traced.
+/// Makes each write to the sink fail in turn, at least as many as the text has pieces: each is told and not tried again,
+/// what was printed is a beginning of the text, and nothing is traced.
 fn each_write_fails<R: Abort + Threads + Wait + Sync>(
     rt: &R,
     alloc: Global,
@@ -346,6 +357,7 @@ fn each_write_fails<R: Abort + Threads + Wait + Sync>(
     text: &str,
     device: &[u8],
     printed: &str,
+    pieces: usize,
 ) -> Result<(), Fail> {
     let mut failing = NOTHING_FAILS;
     for sink in 0..MOST_WRITES {
@@ -353,9 +365,12 @@ fn each_write_fails<R: Abort + Threads + Wait + Sync>(
         let left = call(rt, alloc, words, text, device, failing)?;
         if left.status == Status::Done {
             assert_eq!(rt; left.printed.as_slice(), printed.as_bytes());
+            assert!(rt; sink >= pieces, "only {sink} writes for {text}");
             return Ok(());
         }
         assert_eq!(rt; left.status, Status::WriteFault, "for write {sink}");
+        assert_eq!(rt; left.out_faults, 1, "for write {sink}");
+        assert_eq!(rt; left.trace_faults, 0, "for write {sink}");
         assert!(rt; left.printed.len() < printed.len(), "for write {sink}");
         assert!(rt;
             printed.as_bytes().starts_with(&left.printed),
@@ -369,8 +384,10 @@ fn each_write_fails<R: Abort + Threads + Wait + Sync>(
 #[test]
 fn each_write_that_fails_is_told(rt: HostRuntime) -> Result<(), Fail> {
     let alloc = rt.alloc();
-    each_write_fails(&rt, alloc, CREATE, "", b"", "created group 4\n")?;
-    each_write_fails(&rt, alloc, RUN, FIRST_TEXT, EMPTY, FIRST_PRINTED)?;
+    each_write_fails(&rt, alloc, CREATE, "", b"", "created group 4\n", 1)?;
+    // The lines of the replies have 16 and 7 pieces.
+    let pieces = 16 + 7 + PIECES_OF_TOTALS;
+    each_write_fails(&rt, alloc, RUN, FIRST_TEXT, EMPTY, FIRST_PRINTED, pieces)?;
     Ok(())
 }
 

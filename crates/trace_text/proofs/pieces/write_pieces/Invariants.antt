@@ -6,4 +6,4 @@ use Rattle.trace_text.proofs.pieces.write_pieces.Given as goal
 
 abbrev pub invariant-loop-piece : goal.invariant-loop-piece
 invariant-loop-piece g l =
-    Printed (g.T.Sink.taken l.fn.trace) (g.T.Sink.taken l.trace) (g.T.Sink.faults l.fn.trace) (g.T.Sink.faults l.trace) (flat_map piece_text (take l.piece-index l.pieces))
+    Printed (g.T.Sink.taken l.fn.sink) (g.T.Sink.taken l.sink) (g.T.Sink.faults l.fn.sink) (g.T.Sink.faults l.sink) (flat_map piece_text (take l.piece-index l.pieces))

@@ -12,5 +12,5 @@ loop-written-preserved g c =
       taken = λ tells.
           written_more c.args.bytes.now (told (g.S.Sink.taken c.args.sink.now)) (told (g.S.Sink.taken c.loop-written.sink)) (told (g.S.Sink.taken c.write.new.self)) c.loop-written.written c.in_ok-n.n (was.taken tells) (c.in_ok-n.ensures.bytes (was.kind ∙ tells));
       kind = c.in_ok-n.ensures.kind ∙ was.kind;
-      later = omega (arith, was.later, c.in_ok-n.ensures.cause.later);
+      steady = c.in_ok-n.ensures.some (grind (arith, common_steps)) ∙ was.steady;
     }

@@ -8,7 +8,7 @@ invariant-loop-written g l = record {
   within : l.written ≤ length l.bytes;
   taken : IsSome (g.S.Sink.taken l.fn.sink) → told (g.S.Sink.taken l.sink) ≡ told (g.S.Sink.taken l.fn.sink) ++ take l.written l.bytes;
   kind : is_some (g.S.Sink.taken l.sink) ≡ is_some (g.S.Sink.taken l.fn.sink);
-  later : g.S.Sink.faults l.fn.sink ≤ g.S.Sink.faults l.sink;
+  steady : g.S.Sink.faults l.sink ≡ g.S.Sink.faults l.fn.sink;
 }
 
 abbrev pub decreases-loop-written : goal.decreases-loop-written

@@ -237,3 +237,14 @@ fn frees_are_answered(rt: HostRuntime) -> Result<(), Fail> {
     }
     Ok(())
 }
+
+#[test]
+fn each_write_of_frees_that_fails_is_told(rt: HostRuntime) -> Result<(), Fail> {
+    let alloc = rt.alloc();
+    let row = TWICE_AND_UNKNOWN;
+    let totals = totals(alloc, row.units, row.group)?;
+    let printed = format!(in alloc; "{}{totals}", row.replies)?;
+    // The lines of the replies have 16, 8, 10 and 7 pieces.
+    let pieces = 16 + 8 + 10 + 7 + PIECES_OF_TOTALS;
+    each_write_fails(&rt, alloc, RUN, row.text, EMPTY, printed.as_str(), pieces)
+}

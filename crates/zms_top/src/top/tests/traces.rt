@@ -91,13 +91,14 @@ fn runs_that_free_are_traced(rt: HostRuntime) -> Result<(), Fail> {
     Ok(())
 }
 
-/// Makes each write to the trace's sink fail in turn, as many as there are: each is told, what was traced is a beginning
-/// of the text, and all else is as where none fails.
+/// Makes each write to the trace's sink fail in turn, at least as many as the text has pieces: each is told and not tried
+/// again, what was traced is a beginning of the text, and all else is as where none fails.
 fn each_trace_write_fails<R: Abort + Threads + Wait + Sync>(
     rt: &R,
     alloc: Global,
     text: &str,
     want: Wanted<'_>,
+    pieces: usize,
 ) -> Result<(), Fail> {
     let mut failing = NOTHING_FAILS;
     for trace in 0..MOST_WRITES {
@@ -107,9 +108,12 @@ fn each_trace_write_fails<R: Abort + Threads + Wait + Sync>(
         assert_eq!(rt; left.device.as_slice(), want.device);
         if left.status == Status::Done {
             assert_eq!(rt; left.traced.as_slice(), want.traced.as_bytes());
+            assert!(rt; trace >= pieces, "only {trace} writes for {text}");
             return Ok(());
         }
         assert_eq!(rt; left.status, Status::WriteFault, "for write {trace}");
+        assert_eq!(rt; left.out_faults, 0, "for write {trace}");
+        assert_eq!(rt; left.trace_faults, 1, "for write {trace}");
         assert!(rt; left.traced.len() < want.traced.len(), "for write {trace}");
         assert!(rt;
             want.traced.as_bytes().starts_with(&left.traced),
@@ -127,8 +131,11 @@ fn each_trace_write_that_fails_is_told(rt: HostRuntime) -> Result<(), Fail> {
         traced: FIRST_TRACE,
         device: WITH_UNIT_0,
     };
-    each_trace_write_fails(&rt, rt.alloc(), FIRST_TEXT, first)?;
-    each_trace_write_fails(&rt, rt.alloc(), DEFERRAL_TEXT, DEFERRAL)?;
+    // The first two lines and the last have 15 pieces, those of a load 6, of a grant or a free 11, and of the others 7.
+    let pieces = 15 + 6 + 11 + 2 * 7;
+    each_trace_write_fails(&rt, rt.alloc(), FIRST_TEXT, first, pieces)?;
+    let pieces = 15 + 6 + 3 * 11 + 8 * 7;
+    each_trace_write_fails(&rt, rt.alloc(), DEFERRAL_TEXT, DEFERRAL, pieces)?;
     Ok(())
 }
 
