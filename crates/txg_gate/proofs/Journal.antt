@@ -1,5 +1,6 @@
 -- The gate's journal, grown by one note.
-use Rattle.std.proofs.Common.{◌≡◌, ℕ, ◌+◌, ◌<◌, ◌≤◌, Bool, true, false, cond, eqb, List, [], ◌∷◌, ◌++◌, length, sym, ap, ◌∙◌, subst, ⊎_elim, arith, length-append}
+use Rattle.std.proofs.Common.{◌≡◌, ℕ, zero, suc, ◌+◌, ◌<◌, ◌≤◌, Bool, true, false, cond, eqb, List, [], ◌∷◌, ◌++◌, length, sym, ap, ◌∙◌, subst, ⊎_elim, arith, length-append}
+use Rattle.std.proofs.Math.Dec.{eqb-suc-zero}
 use Rattle.std.proofs.lemmas.Bool.Decides.{eqb_tells}
 use Rattle.std.proofs.lemmas.List.Elements.{All-push, filter-append}
 use Rattle.ms_model.specs.Gates.{open_group, synced_group, MayPass, IsGateLegal}
@@ -27,6 +28,13 @@ one_more false n = omega arith
 
 closings_of-push : (lane : ℕ) (h : List GateNote) (n : GateNote) → closings_of lane (h ++ n ∷ []) ≡ closings_of lane h + length (cond (eqb lane (gate_right n)) (n ∷ []) [])
 closings_of-push lane h n = ap length (filter-append (λ m. eqb lane (gate_right m)) h (n ∷ [])) ∙ length-append (notes_at gate_right lane h) (cond (eqb lane (gate_right n)) (n ∷ []) [])
+
+pub closings_push : (lane : ℕ) (h : List GateNote) (n : GateNote) → closings_of lane (h ++ n ∷ []) ≤ closings_of lane h + 1
+closings_push lane h n = omega (arith, closings_of-push lane h n, one_more (eqb lane (gate_right n)) n)
+
+pub closings_settled : (lane : ℕ) (h : List GateNote) (group : Group) → 1 ≤ lane → closings_of lane (h ++ Settled group ∷ []) ≡ closings_of lane h
+closings_settled zero h group some = absurd (omega arith)
+closings_settled (suc lane) h group some = closings_of-push (suc lane) h (Settled group) ∙ ap (λ (b : Bool). closings_of (suc lane) h + length (cond b (Settled group ∷ []) [])) (eqb-suc-zero lane) ∙ omega arith
 
 pub few_push : (h : List GateNote) (n : GateNote) → AreFew h → IsByLane n → (1 ≤ gate_right n → closings_of (gate_right n) h < 200000) → AreFew (h ++ n ∷ [])
 few_push h n few own below = record {

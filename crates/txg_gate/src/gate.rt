@@ -157,6 +157,13 @@ impl Gate {
         self.synced = group;
     }
 
+    /// The group at which the pool was opened.
+    pub fn opened(&self) -> Group
+        ensures { result.0 ≡ self.now.opened }
+    {
+        self.opened
+    }
+
     pub fn open_group(&self) -> Group
         ensures group { result.0 ≡ open_of self.now }
         ensures small { result.0 < 2 ^ 50 }

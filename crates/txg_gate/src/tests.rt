@@ -40,6 +40,7 @@ fn a_held_group_is_not_quiesced(rt: HostRuntime) {
     gate.release(hold);
     assert!(rt; gate.quiesced(Group(5)) && !gate.quiesced(Group(6)));
     assert!(rt; gate.open_group() == Group(6) && gate.synced() == Group(4));
+    assert!(rt; gate.opened() == Group(4));
     let next = Group(gate.synced().0 + 1);
     if next < gate.open_group() {
         gate.settled(next);

@@ -17,6 +17,7 @@ use Rattle.ms_model.specs.declared.notes.Noted.{Noted}
 use Rattle.ms_model.specs.declared.notes.GateNote.{GateNote}
 use Rattle.ms_model.proofs.Held.{ChangesUpTo}
 use Rattle.ms_core.specs.State.{MsState, origin_of, StaysButNotes}
+use Rattle.txg_gate.specs.GateState.{GateState}
 use Rattle.zms_top.specs.Record.{is_set}
 use Rattle.zms_top.specs.Acting.{IsPool}
 use Rattle.zms_top.specs.declared.pool.Pool.{Pool}
@@ -25,7 +26,7 @@ use Rattle.zms_top.specs.Sound.{IsSound, ground_of}
 use Rattle.zms_top.specs.Pooling.{IsLook, act_of}
 use Rattle.zms_top.specs.Backing.{Missed, AllocLine, dva_at}
 use Rattle.zms_top.proofs.Sounding.{LeavesGroups}
-use Rattle.zms_top.proofs.StepLemmas.{StepLeaves, StepDid, step_events, step_did, note_leaves, above_settled}
+use Rattle.zms_top.proofs.StepLemmas.{StepLeaves, StepDid, StaysButHolds, step_events, step_did, note_leaves, above_settled}
 
 act_leaves : (group : Group) (count : ℕ) (found : Option Seg) → LeavesGroups (act_of group count found)
 act_leaves group count None = tt
@@ -86,12 +87,12 @@ missed_line o lane size group count g before some most units is = (
   },
 )
 
-pub granted_did : (p : Pool) (m : MsState) (lane size : ℕ) (group : Group) (count : ℕ) (seg : Seg) (copies : List Dva)
+pub granted_did : (p : Pool) (m : MsState) (gate : GateState) (lane size : ℕ) (group : Group) (count : ℕ) (seg : Seg) (copies : List Dva)
     → IsPool p → 1 ≤ lane → 0 < size → size ≤ 16777216 → AreUnitsOf size 12 count → group.0 ≡ open_group p.gate.opened p.gate.notes
-    → StaysButNotes p.metaslab m → IsLook (origin_of p.metaslab) lane group count p.metaslab.notes m.notes (Some seg)
+    → StaysButNotes p.metaslab m → StaysButHolds p.gate gate → IsLook (origin_of p.metaslab) lane group count p.metaslab.notes m.notes (Some seg)
     → copies ≡ dva_at (ground_of (origin_of p.metaslab)) 0 seg ∷ []
-    → StepDid p lane (AllocLine (ground_of (origin_of p.metaslab)) lane size (Granted group copies)) m
-granted_did p m lane size group count seg copies was some least most units is stays looked copies_are =
+    → StepDid p lane (AllocLine (ground_of (origin_of p.metaslab)) lane size (Granted group copies)) m gate
+granted_did p m gate lane size group count seg copies was some least most units is stays held looked copies_are =
     let o : Origin = origin_of p.metaslab in
     let open_is : group.0 ≡ open_group p.metaslab.opened p.gate.notes = rw (← was.opened) is in
     let units_are : AreUnitsOf size p.metaslab.ashift count = rw was.shift units in
@@ -99,18 +100,18 @@ granted_did p m lane size group count seg copies was some least most units is st
     let step = noting looked.before (record { lane = lane; act = Grant group seg }) in
     let line_is : AllocLine (ground_of o) lane size (Granted group copies) (step_events p.gate.notes step) =
     rw copies_are (found_line o lane size group count p.gate.notes looked.before seg least most units_are open_is looked.counts) in
-    step_did p m lane (AllocLine (ground_of o) lane size (Granted group copies)) step was stays leaves line_is
+    step_did p m gate lane (AllocLine (ground_of o) lane size (Granted group copies)) step was stays held leaves line_is
 
-pub missed_did : (p : Pool) (m : MsState) (lane size : ℕ) (group : Group) (count : ℕ)
+pub missed_did : (p : Pool) (m : MsState) (gate : GateState) (lane size : ℕ) (group : Group) (count : ℕ)
     → IsPool p → 1 ≤ lane → 0 < size → size ≤ 16777216 → AreUnitsOf size 12 count → group.0 ≡ open_group p.gate.opened p.gate.notes
-    → StaysButNotes p.metaslab m → IsLook (origin_of p.metaslab) lane group count p.metaslab.notes m.notes None
-    → StepDid p lane (AllocLine (ground_of (origin_of p.metaslab)) lane size (NoSpace 1)) m
-missed_did p m lane size group count was some least most units is stays looked =
+    → StaysButNotes p.metaslab m → StaysButHolds p.gate gate → IsLook (origin_of p.metaslab) lane group count p.metaslab.notes m.notes None
+    → StepDid p lane (AllocLine (ground_of (origin_of p.metaslab)) lane size (NoSpace 1)) m gate
+missed_did p m gate lane size group count was some least most units is stays held looked =
     let o : Origin = origin_of p.metaslab in
     let open_is : group.0 ≡ open_group p.metaslab.opened p.gate.notes = rw (← was.opened) is in
     let units_are : AreUnitsOf size p.metaslab.ashift count = rw was.shift units in
     let leaves = look_noted o lane group count p.metaslab.notes m.notes p.gate.notes (is_set p.record.bytes.items) p.first None some was.sound (above_settled p group was is) looked in
-    step_did p m lane (AllocLine (ground_of o) lane size (NoSpace 1)) (noting looked.before (record { lane = lane; act = Miss count })) was stays leaves
+    step_did p m gate lane (AllocLine (ground_of o) lane size (NoSpace 1)) (noting looked.before (record { lane = lane; act = Miss count })) was stays held leaves
     (missed_line o lane size group count p.gate.notes looked.before least most units_are open_is)
 
 not_err : {T E : Type 0} (r : Result T E) (x : T) → r ≡ Ok x → IsErr r → ⊥

@@ -1,5 +1,5 @@
 -- How lanes end, from what they did to what is shipped.
-use Rattle.std.proofs.Common.{◌≡◌, ℕ, ◌≤◌, Bool, true, false, Option, Some, None, List, [], ◌∷◌, length, zero, suc, refl, sym, ◌∙◌, ap, subst, arith}
+use Rattle.std.proofs.Common.{◌≡◌, ◌≢◌, ℕ, ◌≤◌, Bool, true, false, Option, Some, None, List, [], ◌∷◌, length, zero, suc, refl, sym, ◌∙◌, ap, subst, arith}
 use Rattle.std.specs.Prelude.{slice_get, IsSome, ◌||◌}
 use Rattle.std.specs.List.{fold}
 use Rattle.zms_units.specs.declared.faults.First.{First}
@@ -10,7 +10,7 @@ use Rattle.zms_units.specs.Runs.{units_in}
 use Rattle.ms_model.specs.Counts.{live_units, deferred_units, vacant_units}
 use Rattle.ms_model.specs.Gates.{synced_group, IsGateLegal}
 use Rattle.ms_model.specs.Parts.{right_of, gate_right}
-use Rattle.ms_model.specs.Steps.{Follows}
+use Rattle.ms_model.specs.Steps.{Quiet, Follows}
 use Rattle.ms_model.specs.Events.{Event, metaslab_steps, gate_steps}
 use Rattle.ms_model.specs.declared.notes.Noted.{Noted}
 use Rattle.ms_model.specs.declared.journals.Journals.{Journals}
@@ -18,7 +18,7 @@ use Rattle.ms_core.specs.State.{MsState, origin_of, settled_of, StaysButNotes}
 use Rattle.zms_dev.specs.Disk.{DiskState, Tells}
 use Rattle.zms_top.specs.Script.{IsFile}
 use Rattle.zms_top.specs.Answers.{Replied, paired, first_with, first_fault}
-use Rattle.zms_top.specs.Backing.{AreIntervals}
+use Rattle.zms_top.specs.Backing.{Lines, AreIntervals}
 use Rattle.zms_top.specs.Sound.{IsRecorded}
 use Rattle.zms_top.specs.Acting.{IsKept}
 use Rattle.zms_top.specs.Running.{HasRun, answers_of}
@@ -94,11 +94,12 @@ kept_recorded start now o h kept = record {
   stored = λ lt c may. kept.stored lt c may;
 }
 
-only_journal : (es : List Event) (n : List Noted) (k : ℕ) (h : List Noted) → Follows right_of 1 [] (metaslab_steps 0 es) n → slice_get (n ∷ []) k ≡ Some h → Follows right_of 1 [] (metaslab_steps k es) h
-only_journal es n zero h follows e = subst (λ l. Follows right_of 1 [] (metaslab_steps 0 es) l) (at_zero e) follows where
+only_journal : (lane : ℕ) (es : List Event) (n : List Noted) (k : ℕ) (h : List Noted) → Follows right_of lane [] (metaslab_steps 0 es) n → slice_get (n ∷ []) k ≡ Some h
+    → Follows right_of lane [] (metaslab_steps k es) h
+only_journal lane es n zero h follows e = subst (λ l. Follows right_of lane [] (metaslab_steps 0 es) l) (at_zero e) follows where
   at_zero : {n h : List Noted} → Some n ≡ Some h → n ≡ h
   at_zero e = cc
-only_journal es n (suc k) h follows e = cc
+only_journal lane es n (suc k) h follows e = cc
 
 -- the facts of a whole run, over what is shipped
 pub lanes_did : (p q : Pool) (commands : List Command) (replies : List Reply) (journals : Option Journals) (lists : Option RunLists) (out out_now trace trace_now : SinkState)
@@ -118,8 +119,17 @@ lanes_did p q commands replies journals lists out out_now trace trace_now start 
         events = run.events;
         lines = rw handed.replies_are run.lines;
         at_the_gate = rw handed.gate (subst (λ g. Follows gate_right 1 g (gate_steps run.events) q.gate.notes) fresh.gate run.tour.gate);
-        each = λ k h is. only_journal run.events handed.journal.notes k h (rw handed.notes (subst (λ n. Follows right_of 1 n (metaslab_steps 0 run.events) q.metaslab.notes) fresh.notes run.tour.metaslab)) is;
+        each = λ k h is. only_journal 1 run.events handed.journal.notes k h (rw handed.notes (subst (λ n. Follows right_of 1 n (metaslab_steps 0 run.events) q.metaslab.notes) fresh.notes run.tour.metaslab)) is;
       };
+      others = λ lane low.
+          let low_one : 1 ≤ lane = omega (arith, low) in
+          let apart : lane ≢ 1 = λ e. omega (arith, low, e) in
+          record {
+            events = [];
+            lines = Lines.none;
+            at_the_gate = rw handed.gate (subst (λ g. Quiet gate_right lane g q.gate.notes) fresh.gate (run.tour.others.gate lane low_one apart));
+            each = λ k h is. only_journal lane [] handed.journal.notes k h (rw handed.notes (subst (λ n. Quiet right_of lane n q.metaslab.notes) fresh.notes (run.tour.others.metaslab lane low_one apart))) is;
+          };
       settled = rw (handed.gate, handed.notes) (subst (λ (x : Origin). synced_group x.opened q.gate.notes ≡ settled_group x q.metaslab.notes) origin run.pool.sound.synced);
       intervals = rw handed.replies_are intervals;
       tally = report.tally;
@@ -163,6 +173,7 @@ run_ends left source_low source_high out out_now trace trace_now start mid end l
     (record {
       each = did.each;
       backed = did.backed;
+      others = did.others;
       settled = did.settled;
       intervals = widen low between high (answers_of l.replies) le did.intervals;
       tally = did.tally;

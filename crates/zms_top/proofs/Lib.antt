@@ -3,7 +3,6 @@ pub mod AllocSteps
 pub mod FreeSteps
 pub mod NamingLemmas
 pub mod FileLemmas
-pub mod GateLemmas
 pub mod Lines
 pub mod LookLemmas
 pub mod NameLemmas

@@ -13,8 +13,9 @@ use Rattle.ms_model.specs.Parts.{right_of, gate_right}
 use Rattle.ms_model.specs.Events.{Event, gate_steps, metaslab_steps}
 use Rattle.ms_model.specs.declared.notes.Noted.{Noted}
 use Rattle.ms_model.specs.declared.notes.GateNote.{GateNote}
-use Rattle.ms_model.proofs.Steps.{follows_both, follows_none, gate_steps-append, metaslab_steps-append}
+use Rattle.ms_model.proofs.Steps.{quiet_both, follows_both, follows_none, gate_steps-append, metaslab_steps-append}
 use Rattle.ms_core.specs.State.{origin_of}
+use Rattle.txg_gate.specs.Closings.{closings_of}
 use Rattle.zms_dev.specs.Disk.{DiskState, Tells}
 use Rattle.zms_top.specs.Answers.{Replied, paired, first_with, IsOfAlloc, IsOfFree}
 use Rattle.zms_top.specs.Sound.{Tour, ground_of, HoldsGroup}
@@ -33,6 +34,10 @@ pub tour_both : (lane : ℕ) (es fs : List Event) (h i j : List Noted) (g k l : 
 tour_both lane es fs h i j g k l first then = record {
   metaslab = rw (metaslab_steps-append 0 es fs) (follows_both right_of lane h (metaslab_steps 0 es) i (metaslab_steps 0 fs) j first.metaslab then.metaslab);
   gate = rw (gate_steps-append es fs) (follows_both gate_right lane g (gate_steps es) k (gate_steps fs) l first.gate then.gate);
+  others = record {
+    metaslab = λ other low apart. quiet_both right_of other h i j (first.others.metaslab other low apart) (then.others.metaslab other low apart);
+    gate = λ other low apart. quiet_both gate_right other g k l (first.others.gate other low apart) (then.others.gate other low apart);
+  };
 }
 
 -- intervals go on from call to call
@@ -178,7 +183,11 @@ paired-push cs rs i c r lt same at = rw (add-one, take-suc cs i c, ← at) (pair
 pub run_none : (p : Pool) → IsPool p → p.first ≡ None → HasRun p p []
 run_none p was idle = record {
   events = [];
-  tour = record { metaslab = follows_none right_of 1 p.metaslab.notes; gate = follows_none gate_right 1 p.gate.notes };
+  tour = record {
+    metaslab = follows_none right_of 1 p.metaslab.notes;
+    gate = follows_none gate_right 1 p.gate.notes;
+    others = record { metaslab = λ other low apart. follows_none right_of other p.metaslab.notes; gate = λ other low apart. follows_none gate_right other p.gate.notes };
+  };
   lines = Lines.none;
   pool = was;
   stays = refl;
@@ -196,13 +205,14 @@ run_more p q r done c answer run lane acted first =
     subst (λ (o : Origin). WhatLine (ground_of o) c.lane done c.what answer acted.events) origin acted.line_is in
     let tour : Tour 1 acted.events q.metaslab.notes r.metaslab.notes q.gate.notes r.gate.notes =
     subst (λ l. Tour l acted.events q.metaslab.notes r.metaslab.notes q.gate.notes r.gate.notes) lane acted.tour in
+    let rises : closings_of 1 r.gate.notes ≤ closings_of 1 q.gate.notes + 1 = subst (λ l. closings_of l r.gate.notes ≤ closings_of l q.gate.notes + 1) lane acted.rises in
     record {
       events = run.events ++ acted.events;
       tour = tour_both 1 run.events acted.events p.metaslab.notes q.metaslab.notes r.metaslab.notes p.gate.notes q.gate.notes r.gate.notes run.tour tour;
       lines = Lines.more done run.events next acted.events run.lines (record { lane = refl; what = what });
       pool = acted.pool;
       stays = stays_both p.metaslab q.metaslab r.metaslab run.stays acted.stays;
-      rises = omega (arith, run.rises, acted.rises, length-append done (next ∷ []));
+      rises = omega (arith, run.rises, rises, length-append done (next ∷ []));
       fault = fold_push (λ so_far (x : Replied). first_with so_far x.reply.answer) None done next ∙ (ap (λ f. first_with f answer) run.fault ∙ sym first);
     }
 

@@ -18,7 +18,7 @@ use Rattle.ms_model.proofs.Histories.{settled_group-push, collected_group-push, 
 use Rattle.ms_model.proofs.Overlaps.{unit_facts}
 use Rattle.ms_model.proofs.Held.{ChangesUpTo, held-quiet}
 use Rattle.zms_top.specs.Sound.{IsSound}
-use Rattle.zms_top.proofs.GateLemmas.{open_group-push, synced_group-push}
+use Rattle.ms_model.proofs.GateGroups.{open_group-push, synced_group-push}
 
 -- the notes that leave groups alone
 abbrev pub LeavesGroups : Act → Type 0

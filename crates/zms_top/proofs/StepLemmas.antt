@@ -1,7 +1,8 @@
 -- A step of a lane at the metaslab, under a hold of the open group: it leaves the pool sound, and is a part of the lane's events.
-use Rattle.std.proofs.Common.{◌≡◌, ℕ, ◌<◌, ◌≤◌, Bool, false, cond, Option, List, [], ◌∷◌, ◌++◌, zero, suc, refl, sym, ◌∙◌, ap, subst, arith}
+use Rattle.std.proofs.Common.{◌≡◌, ◌≢◌, ℕ, ◌<◌, ◌≤◌, Bool, false, cond, Option, List, [], ◌∷◌, ◌++◌, zero, suc, refl, sym, ◌∙◌, ap, subst, arith}
 use Rattle.std.specs.Prelude.{◌==◌}
 use Rattle.std.proofs.Math.Dec.{eqb-suc-zero}
+use Rattle.std.proofs.lemmas.Bool.{ne_eqb}
 use Rattle.std.proofs.lemmas.List.{append-nil}
 use Rattle.zms_units.specs.declared.faults.First.{First}
 use Rattle.zms_units.specs.declared.segments.Group.{Group}
@@ -20,8 +21,9 @@ use Rattle.ms_model.specs.declared.notes.Noted.{Noted}
 use Rattle.ms_model.specs.declared.notes.GateNote.{GateNote}
 use Rattle.ms_model.proofs.Held.{ChangesUpTo, held-quiet, held-as_opened}
 use Rattle.ms_model.proofs.Overlaps.{settled_le_collected}
-use Rattle.ms_model.proofs.Steps.{quiet_none}
+use Rattle.ms_model.proofs.Steps.{quiet_none, quiet_both}
 use Rattle.ms_core.specs.State.{MsState, origin_of, settled_of, StaysButNotes}
+use Rattle.txg_gate.specs.GateState.{GateState}
 use Rattle.zms_top.specs.Record.{is_set}
 use Rattle.zms_top.specs.Acting.{Acted, IsPool, LeavesSettled}
 use Rattle.zms_top.specs.declared.pool.Pool.{Pool}
@@ -40,9 +42,13 @@ quiet_keeper lane h by act is some = record {
   other zero some = absurd (omega arith)
   other (suc n) some = eqb-suc-zero n
 
-pub loads_quiet : (lane : ℕ) (h j : List Noted) → 1 ≤ lane → Loads lane h j → Quiet right_of lane h j
-loads_quiet lane h j some (loaded is) = quiet_none right_of lane h
-loads_quiet lane h j some (loads is) = quiet_keeper lane h lane Load refl some
+loads_quiet : (other lane : ℕ) (h j : List Noted) → 1 ≤ other → Loads lane h j → Quiet right_of other h j
+loads_quiet other lane h j some (loaded is) = quiet_none right_of other h
+loads_quiet other lane h j some (loads is) = quiet_keeper other h lane Load refl some
+
+-- a note of another lane's is quiet too
+pub quiet_other : {N : Type 0} (right : N → ℕ) (other : ℕ) (h : List N) (n : N) → (other ≡ right n → ⊥) → Quiet right other h (h ++ n ∷ [])
+quiet_other right other h n apart = record { more = n ∷ []; is = refl; none = ap (λ b. cond b (n ∷ []) []) (ne_eqb other (right n) apart) }
 
 sound_loads : (o : Origin) (lane : ℕ) (h j : List Noted) (g : List GateNote) (set : ℕ → Bool) (first : Option First)
     → IsSound o h g set first → Loads lane h j → IsSound o j g set first
@@ -67,6 +73,7 @@ pub record StepLeaves (o : Origin) (lane : ℕ) (step : Step Noted) (h new : Lis
   pub group_stays : settled_group o new ≡ settled_group o h
   pub held_stays : (u : ℕ) → held o new (settled_group o h) u ≡ held o h (settled_group o h) u
   pub follows : Follows right_of lane h (step ∷ []) new
+  pub others : (other : ℕ) → 1 ≤ other → other ≢ lane → Quiet right_of other h new
 
 -- a look without a note, at a metaslab that was loaded first where it needed to be
 pub look_leaves : (o : Origin) (lane : ℕ) (h before : List Noted) (g : List GateNote) (set : ℕ → Bool) (first : Option First)
@@ -75,7 +82,8 @@ look_leaves o lane h before g set first some was in_memory = record {
   sound = sound_loads o lane h before g set first was in_memory;
   group_stays = settled_loads o lane h before in_memory;
   held_stays = λ u. held_loads o lane h before (settled_group o h) u in_memory;
-  follows = (loads_quiet lane h before some in_memory, (tt, subst (λ l. Quiet right_of lane l before) (sym (append-nil before)) (quiet_none right_of lane before)));
+  follows = (loads_quiet lane lane h before some in_memory, (tt, subst (λ l. Quiet right_of lane l before) (sym (append-nil before)) (quiet_none right_of lane before)));
+  others = λ other low apart. loads_quiet other lane h before low in_memory;
 }
 
 -- a note of the lane's, of a group above the settled one
@@ -93,7 +101,10 @@ note_leaves o lane act h before new g set first some was in_memory is may leaves
       group_stays = ap (settled_group o) is ∙ (settled_note o before lane act leaves ∙ mid.group_stays);
       held_stays = λ u.
           ap (λ l. held o l (settled_group o h) u) is ∙ (held-quiet o before note (settled_group o h) u above ∙ mid.held_stays u);
-      follows = (loads_quiet lane h before some in_memory, (right, subst (Quiet right_of lane (before ++ note ∷ [])) (sym is) (quiet_none right_of lane (before ++ note ∷ []))));
+      follows = (loads_quiet lane lane h before some in_memory, (right, subst (Quiet right_of lane (before ++ note ∷ [])) (sym is) (quiet_none right_of lane (before ++ note ∷ []))));
+      others = λ other low apart.
+          subst (Quiet right_of other h) (sym is)
+          (quiet_both right_of other h before (before ++ note ∷ []) (loads_quiet other lane h before low in_memory) (quiet_other right_of other before note (λ e. apart (e ∙ right))));
     }
 
 -- a lane that holds the open group while it looks
@@ -102,11 +113,26 @@ looks_at_gate lane g =
     let still : Quiet gate_right lane (g ++ []) g = subst (λ l. Quiet gate_right lane l g) (sym (append-nil g)) (quiet_none gate_right lane g) in
     (quiet_none gate_right lane g, (tt, (still, (tt, still))))
 
+-- a command that did nothing
+pub nothing_did : (p : Pool) (lane : ℕ) (line : List Event → Type 0) → IsPool p → line [] → Acted p p lane line
+nothing_did p lane line was is = record {
+  events = [];
+  tour = record {
+    metaslab = quiet_none right_of lane p.metaslab.notes;
+    gate = quiet_none gate_right lane p.gate.notes;
+    others = record { metaslab = λ other low apart. quiet_none right_of other p.metaslab.notes; gate = λ other low apart. quiet_none gate_right other p.gate.notes };
+  };
+  line_is = is;
+  pool = was;
+  stays = refl;
+  rises = omega arith;
+}
+
 -- from the pool's parts to the pool
 
-stepped_pool : (p : Pool) (n : List Noted) (r : ℕ) → IsPool p → IsSound (origin_of p.metaslab) n p.gate.notes (is_set p.record.bytes.items) p.first
-    → IsPool (record p { metaslab = record p.metaslab { notes = n; room = r } })
-stepped_pool p n r was sound = record {
+stepped_pool : (p : Pool) (n : List Noted) (r : ℕ) (counts : List ℕ) → IsPool p → IsSound (origin_of p.metaslab) n p.gate.notes (is_set p.record.bytes.items) p.first
+    → IsPool (record p { metaslab = record p.metaslab { notes = n; room = r }; gate = record p.gate { counts = counts } })
+stepped_pool p n r counts was sound = record {
   least_units = was.least_units;
   most_units = was.most_units;
   shift = was.shift;
@@ -118,33 +144,44 @@ stepped_pool p n r was sound = record {
 }
 
 -- the pool after a step, and what it is with regard to the pool before
-abbrev pub after_step : Pool → MsState → Pool
-after_step p m = record p { metaslab = m }
+abbrev pub after_step : Pool → MsState → GateState → Pool
+after_step p m g = record p { metaslab = m; gate = g }
 
-pub record StepDid (p : Pool) (lane : ℕ) (line : List Event → Type 0) (m : MsState) : Type 0 where
-  pub acted : Acted p (after_step p m) lane line
-  pub leaves : LeavesSettled p (after_step p m)
+-- nothing but the counts of holds changed
+abbrev pub StaysButHolds : GateState → GateState → Type 0
+StaysButHolds old new = new ≡ record old { counts = new.counts }
+
+pub stays_held : (a b c : GateState) → StaysButHolds a b → StaysButHolds b c → StaysButHolds a c
+stays_held a b c first then = then ∙ ap (λ (g : GateState). let r : GateState = record g { counts = c.counts } in r) first
+
+pub record StepDid (p : Pool) (lane : ℕ) (line : List Event → Type 0) (m : MsState) (g : GateState) : Type 0 where
+  pub acted : Acted p (after_step p m g) lane line
+  pub leaves : LeavesSettled p (after_step p m g)
 
 -- what a lane does at the gate and at the one metaslab
 abbrev pub step_events : List GateNote → Step Noted → List Event
 step_events g step = at_gate (look g) ∷ ((at_metaslab 0 step ∷ []) ++ (at_gate (look g) ∷ []))
 
-pub step_did : (p : Pool) (m : MsState) (lane : ℕ) (line : List Event → Type 0) (step : Step Noted) → IsPool p → StaysButNotes p.metaslab m
+pub step_did : (p : Pool) (m : MsState) (g : GateState) (lane : ℕ) (line : List Event → Type 0) (step : Step Noted) → IsPool p → StaysButNotes p.metaslab m → StaysButHolds p.gate g
     → StepLeaves (origin_of p.metaslab) lane step p.metaslab.notes m.notes p.gate.notes (is_set p.record.bytes.items) p.first
-    → line (step_events p.gate.notes step) → StepDid p lane line m
-step_did p m lane line step was stays leaves is =
-    subst (StepDid p lane line) (sym stays)
-    (record {
+    → line (step_events p.gate.notes step) → StepDid p lane line m g
+step_did p m g lane line step was stays held leaves is =
+    subst (λ x. StepDid p lane line x g) (sym stays)
+    (subst (StepDid p lane line _) (sym held) (record {
       acted = record {
         events = step_events p.gate.notes step;
-        tour = record { metaslab = leaves.follows; gate = looks_at_gate lane p.gate.notes };
+        tour = record {
+          metaslab = leaves.follows;
+          gate = looks_at_gate lane p.gate.notes;
+          others = record { metaslab = leaves.others; gate = λ other low apart. quiet_none gate_right other p.gate.notes };
+        };
         line_is = is;
-        pool = stepped_pool p m.notes m.room was leaves.sound;
+        pool = stepped_pool p m.notes m.room g.counts was leaves.sound;
         stays = refl;
         rises = omega arith;
       };
       leaves = record { group = leaves.group_stays; units = leaves.held_stays; first = refl };
-    })
+    }))
 
 -- the open group lies above the settled one
 pub above_settled : (p : Pool) (group : Group) → IsPool p → group.0 ≡ open_group p.gate.opened p.gate.notes → settled_of p.metaslab < group.0

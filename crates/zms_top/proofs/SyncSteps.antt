@@ -22,9 +22,11 @@ use Rattle.ms_model.specs.declared.notes.GateNote.TheVariants.{Closed, Settled}
 use Rattle.ms_model.proofs.Histories.{settled_group-push, collected_group-push}
 use Rattle.ms_model.proofs.Steps.{quiet_none, quiet_both}
 use Rattle.ms_core.specs.State.{MsState, origin_of, settled_of, collected_of, StaysButNotes}
+use Rattle.txg_gate.specs.Closings.{closings_of}
+use Rattle.txg_gate.proofs.Journal.{closings_push, closings_settled}
 use Rattle.zms_dev.specs.Causes.{Rose}
 use Rattle.zms_dev.specs.Disk.{DiskState, Tells}
-use Rattle.zms_top.specs.GateState.{GateState}
+use Rattle.txg_gate.specs.GateState.{GateState}
 use Rattle.zms_top.specs.Record.{IsRecord, IsStored, is_set}
 use Rattle.zms_top.specs.Sound.{IsSound, ground_of, HoldsGroup}
 use Rattle.zms_top.specs.Answers.{first_with}
@@ -33,22 +35,15 @@ use Rattle.zms_top.specs.Acting.{Acted, IsPool, IsClosed, IsCommitted, IsKept}
 use Rattle.zms_top.specs.declared.replies.Answer.{Answer}
 use Rattle.zms_top.specs.declared.pool.Pool.{Pool}
 use Rattle.zms_top.specs.declared.replies.Answer.TheVariants.{Done, Device, Suspended}
-use Rattle.zms_top.proofs.GateLemmas.{open_group-push, synced_group-push}
+use Rattle.ms_model.proofs.GateGroups.{open_group-push, synced_group-push}
 use Rattle.zms_top.proofs.Sounding.{sound_collected, sound_settled}
-use Rattle.zms_top.proofs.StepLemmas.{quiet_keeper}
+use Rattle.zms_top.proofs.StepLemmas.{quiet_keeper, quiet_other, nothing_did}
 use Rattle.zms_top.proofs.PoolLemmas.{pool_grows}
 
 -- nothing was done, and the kept fault is told
 pub suspended_did : (p : Pool) (lane : ℕ) (fault : First) → IsPool p → p.first ≡ Some fault
     → Acted p p lane (SyncLine (ground_of (origin_of p.metaslab)) lane p.first (Suspended fault))
-suspended_did p lane fault was is = record {
-  events = [];
-  tour = record { metaslab = quiet_none right_of lane p.metaslab.notes; gate = quiet_none gate_right lane p.gate.notes };
-  line_is = rw is (refl, refl);
-  pool = was;
-  stays = refl;
-  rises = omega arith;
-}
+suspended_did p lane fault was is = nothing_did p lane (SyncLine (ground_of (origin_of p.metaslab)) lane p.first (Suspended fault)) was (rw is (refl, refl))
 
 -- a settling is quiet for a lane
 settling_quiet : (lane : ℕ) (g : List GateNote) (group : Group) → 1 ≤ lane → Quiet gate_right lane g (g ++ Settled group ∷ [])
@@ -90,9 +85,6 @@ closed_facts p q lane group was idle is =
       gate_closed = omega (arith, open_now);
     }
 
-gate_opened : (p q : Pool) (l : List GateNote) → q.gate ≡ record p.gate { notes = l; room = q.gate.room } → q.gate.opened ≡ p.gate.opened
-gate_opened p q l e = ap (λ (g : GateState). g.opened) e
-
 -- the device failed: the closed group stays behind
 pub failed_did : (p q : Pool) (lane : ℕ) (group : Group) (low high : ℕ)
     → IsPool p → p.first ≡ None → 1 ≤ lane → group.0 ≡ open_group p.gate.opened p.gate.notes
@@ -108,14 +100,21 @@ failed_did p q lane group low high was idle some is opened gate notes stays base
     rw (fault, notes, gate) (sound_collected o p.metaslab.notes p.gate.notes (is_set p.record.bytes.items) (is_set q.record.bytes.items) lane group (FirstDevice low high) sound_was is_open) in
     let quiet : Quiet right_of lane p.metaslab.notes q.metaslab.notes = rw notes (quiet_keeper lane p.metaslab.notes lane (Collect group) refl some) in
     let after : Quiet gate_right lane (p.gate.notes ++ Closed lane group ∷ []) q.gate.notes = rw gate (quiet_none gate_right lane (p.gate.notes ++ Closed lane group ∷ [])) in
-    let rises : open_group q.gate.opened q.gate.notes ≡ group.0 + 1 = rw (opened, gate) (open_group-push p.gate.opened p.gate.notes (Closed lane group)) in
+    let rises : closings_of lane q.gate.notes ≤ closings_of lane p.gate.notes + 1 = rw gate (closings_push lane p.gate.notes (Closed lane group)) in
     record {
       events = at_gate (noting p.gate.notes (Closed lane group)) ∷ [];
-      tour = record { metaslab = quiet; gate = (quiet_none gate_right lane p.gate.notes, (refl, after)) };
+      tour = record {
+        metaslab = quiet;
+        gate = (quiet_none gate_right lane p.gate.notes, (refl, after));
+        others = record {
+          metaslab = λ other low apart. rw notes (quiet_keeper other p.metaslab.notes lane (Collect group) refl low);
+          gate = λ other low apart. rw gate (quiet_other gate_right other p.gate.notes (Closed lane group) apart);
+        };
+      };
       line_is = rw idle (record { before = p.gate.notes; group = group; is_open = is_open; rose = rose; whole = refl });
       pool = pool_grows p q was stays opened base units sound_now;
       stays = stays;
-      rises = omega (arith, rises, is);
+      rises = rises;
     }
 
 -- the group is committed and settled
@@ -143,13 +142,19 @@ done_did p q lane group was idle some is opened gate notes stays base units firs
     let gate_still : Quiet gate_right lane (q.gate.notes ++ []) q.gate.notes = subst (λ l. Quiet gate_right lane l q.gate.notes) (sym (append-nil q.gate.notes)) (quiet_none gate_right lane q.gate.notes) in
     let seen : Contains q.metaslab.notes settle = rw notes (contains_last mid settle) in
     let gate_seen : Contains q.gate.notes (Settled group) = rw gate (contains_last closed (Settled group)) in
-    let rises : open_group q.gate.opened q.gate.notes ≡ group.0 + 1 =
-    rw (opened, gate) (open_group-push p.gate.opened closed (Settled group) ∙ open_group-push p.gate.opened p.gate.notes (Closed lane group)) in
+    let rises : closings_of lane q.gate.notes ≤ closings_of lane p.gate.notes + 1 =
+    rw (gate, closings_settled lane closed group some) (closings_push lane p.gate.notes (Closed lane group)) in
     record {
       events = at_gate (noting p.gate.notes (Closed lane group)) ∷ ((at_metaslab 0 (look q.metaslab.notes) ∷ []) ++ (at_gate (look q.gate.notes) ∷ []));
       tour = record {
         metaslab = (quiet, (tt, still));
         gate = (quiet_none gate_right lane p.gate.notes, (refl, (settling, (tt, gate_still))));
+        others = record {
+          metaslab = λ other low apart.
+              rw notes (quiet_both right_of other p.metaslab.notes mid (mid ++ settle ∷ []) (quiet_keeper other p.metaslab.notes lane (Collect group) refl low) (quiet_keeper other mid lane (Settle group) refl low));
+          gate = λ other low apart.
+              rw gate (quiet_both gate_right other p.gate.notes closed (closed ++ Settled group ∷ []) (quiet_other gate_right other p.gate.notes (Closed lane group) apart) (settling_quiet other closed group low));
+        };
       };
       line_is = rw idle (record {
         before = p.gate.notes;
@@ -162,7 +167,7 @@ done_did p q lane group was idle some is opened gate notes stays base units firs
       });
       pool = pool_grows p q was stays opened base units sound_now;
       stays = stays;
-      rises = omega (arith, rises, is);
+      rises = rises;
     }
 
 -- the images that a stop may leave then hold the settled group
@@ -193,7 +198,7 @@ sync_did p mid q lane group low high answer was idle some closed (IsCommitted.se
     λ u lt. bits u ∙ closed.bits u lt in
     let idle_now : q.first ≡ None = first ∙ (closed.first ∙ idle) in
     rw is (record {
-      acted = done_did p q lane group was idle some closed.is_open (gate_opened mid q _ gate ∙ gate_opened p mid _ closed.gate) gate_notes
+      acted = done_did p q lane group was idle some closed.is_open (ap (λ (g : GateState). g.opened) gate ∙ ap (λ (g : GateState). g.opened) closed.gate) gate_notes
           (notes ∙ ap (λ l. l ++ record { lane = lane; act = Settle group } ∷ []) closed.notes) (stays_both p.metaslab mid.metaslab q.metaslab closed.stays stays)
           (base ∙ closed.base) (units ∙ closed.units) idle_now all;
       first = rw idle idle_now;

@@ -10,6 +10,7 @@ use Rattle.ms_model.specs.Gains.{is_gained, is_given}
 use Rattle.ms_model.specs.Gates.{open_group}
 use Rattle.ms_model.specs.declared.notes.Act.TheVariants.{Collect, Settle}
 use Rattle.ms_model.specs.declared.notes.GateNote.TheVariants.{Closed, Settled}
+use Rattle.txg_gate.specs.Closings.{closings_of}
 use Rattle.zms_dev.specs.Causes.{Rose}
 use Rattle.zms_dev.specs.Disk.{DiskState, Tells, bytes_of}
 use Rattle.ms_model.specs.Events.{Event}
@@ -38,7 +39,7 @@ pub record Acted (p q : Pool) (lane : ℕ) (line : List Event → Type 0) : Type
   pub line_is : line events
   pub pool : IsPool q
   pub stays : StaysButNotes p.metaslab q.metaslab
-  pub rises : open_group q.gate.opened q.gate.notes ≤ open_group p.gate.opened p.gate.notes + 1
+  pub rises : closings_of lane q.gate.notes ≤ closings_of lane p.gate.notes + 1
 
 -- what is settled stays as it was, and so does the kept fault
 pub record LeavesSettled (p q : Pool) : Type 0 where
@@ -60,7 +61,7 @@ pub record IsClosed (p q : Pool) (lane : ℕ) (group : Group) : Type 0 where
 -- the closed group is settled; or the device failed, and that is kept
 pub data IsCommitted (p q : Pool) (lane : ℕ) (group : Group) (faults_before faults_now : ℕ) (answer : Answer) : Type 0 where
   settled : answer ≡ Done group
-      → q.gate ≡ record p.gate { notes = p.gate.notes ++ (Settled group ∷ []); room = q.gate.room }
+      → q.gate ≡ record p.gate { notes = p.gate.notes ++ (Settled group ∷ []); counts = q.gate.counts; room = q.gate.room }
       → q.metaslab.notes ≡ p.metaslab.notes ++ (record { lane = lane; act = Settle group } ∷ [])
       → StaysButNotes p.metaslab q.metaslab → q.first ≡ p.first → q.base ≡ p.base
       → q.record.units ≡ p.record.units → ((u : ℕ) → is_set q.record.bytes.items u ≡ is_set p.record.bytes.items u)

@@ -30,7 +30,8 @@ first_with None _ = None
 abbrev pub first_fault : List Replied → Option First
 first_fault done = fold (λ so_far r. first_with so_far r.reply.answer) None done
 
--- the copies of the block of a name, once one more command has its answer: an alloc of this name that was granted has it
+-- the copies of the block of a name, once one more command has its answer: an alloc of this name that was granted gives
+-- them, and every other command leaves them
 abbrev pub copies_after : List ℕ → Option (List Dva) → What → Answer → Option (List Dva)
 copies_after name so_far (Alloc given _ _ _) (Granted _ copies) = if bytes_eq given name then Some copies else so_far
 copies_after name so_far _ _ = so_far

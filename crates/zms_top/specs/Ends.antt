@@ -1,5 +1,5 @@
 -- How a call ends: each way, with its cause.
-use Rattle.std.specs.Prelude.{◌≡◌, ℕ, ◌*◌, ◌<◌, Bool, true, false, Option, Some, None, IsSome, Result, Ok, Err, List, [], ◌∷◌, length, take, replicate}
+use Rattle.std.specs.Prelude.{◌≡◌, ℕ, ◌*◌, ◌<◌, ◌≤◌, Bool, true, false, Option, Some, None, IsSome, Result, Ok, Err, List, [], ◌∷◌, length, take, replicate}
 use Rattle.std.specs.List.{list_any}
 use Rattle.zms_units.specs.declared.segments.Group.{Group}
 use Rattle.zms_units.specs.declared.places.Class.TheVariants.{Normal}
@@ -101,11 +101,12 @@ end_status true _ = DeviceFault
 end_status false (Ok _) = Done
 end_status false (Err _) = WriteFault
 
--- what the lanes leave where memory was there: every command has its reply, the replies are backed by the journals, the text
--- of the replies and totals was printed, then that of the journals, and the device has what was committed
+-- what the lanes leave where memory was there: every command has its reply, the replies are backed by the journals, a lane
+-- without commands did nothing, the text of the replies and totals was printed, then that of the journals, and the device has what was committed
 pub record LanesDid (commands : List Command) (out out_now trace trace_now : SinkState) (start now : DiskState) (low high : ℕ) (o : Origin) (journal : MsJournal) (journals : Journals) (lists : RunLists) (status : Status) : Type 0 where
   pub each : length lists.replies ≡ length commands
   pub backed : AreBacked (ground_of o) 1 (paired commands lists.replies) lists.gate (journal.notes ∷ [])
+  pub others : (lane : ℕ) → 2 ≤ lane → AreBacked (ground_of o) lane [] lists.gate (journal.notes ∷ [])
   pub settled : synced_group o.opened lists.gate ≡ settled_group o journal.notes
   pub intervals : AreIntervals low high (answers_of lists.replies)
   pub tally : Tally

@@ -4,8 +4,6 @@ pub mod Answers
 pub mod Texts
 pub mod Record
 pub mod Reporting
-pub mod GateState
-pub mod GateInside
 pub mod Backing
 pub mod Naming
 pub mod Reading

@@ -1,6 +1,6 @@
 -- What a whole run of a lane's commands did.
 use Rattle.std.specs.Prelude.{◌≡◌, ◌+◌, ◌≤◌, List, map, length}
-use Rattle.ms_model.specs.Gates.{open_group}
+use Rattle.txg_gate.specs.Closings.{closings_of}
 use Rattle.ms_model.specs.Events.{Event}
 use Rattle.ms_core.specs.State.{origin_of, StaysButNotes}
 use Rattle.zms_top.specs.Answers.{Replied, first_fault}
@@ -21,5 +21,5 @@ pub record HasRun (p q : Pool) (done : List Replied) : Type 0 where
   pub lines : Lines (ground_of (origin_of p.metaslab)) done events
   pub pool : IsPool q
   pub stays : StaysButNotes p.metaslab q.metaslab
-  pub rises : open_group q.gate.opened q.gate.notes ≤ open_group p.gate.opened p.gate.notes + length done
+  pub rises : closings_of 1 q.gate.notes ≤ closings_of 1 p.gate.notes + length done
   pub fault : first_fault done ≡ q.first

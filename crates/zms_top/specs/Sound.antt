@@ -5,7 +5,7 @@ use Rattle.zms_units.specs.declared.faults.First.{First}
 use Rattle.ms_model.specs.Origin.{Origin}
 use Rattle.ms_model.specs.Units.{held, settled_group, collected_group, is_loaded}
 use Rattle.ms_model.specs.Legal.{IsLegal}
-use Rattle.ms_model.specs.Steps.{Follows}
+use Rattle.ms_model.specs.Steps.{Quiet, Follows}
 use Rattle.ms_model.specs.Parts.{right_of, gate_right}
 use Rattle.ms_model.specs.Gates.{open_group, synced_group}
 use Rattle.ms_model.specs.Events.{Event, gate_steps, metaslab_steps}
@@ -31,10 +31,16 @@ pub record IsSound (o : Origin) (h : List Noted) (g : List GateNote) (set : ℕ 
   pub level : first ≡ None → collected_group o h ≡ settled_group o h
   pub bits : first ≡ None → (u : ℕ) → u < o.units → set u ≡ held o h (settled_group o h) u
 
--- what a lane did between two states of the journals
+-- from h to j, and from g to k, no lane but this one noted anything
+pub record OthersRest (lane : ℕ) (h j : List Noted) (g k : List GateNote) : Type 0 where
+  pub metaslab : (other : ℕ) → 1 ≤ other → other ≢ lane → Quiet right_of other h j
+  pub gate : (other : ℕ) → 1 ≤ other → other ≢ lane → Quiet gate_right other g k
+
+-- what a lane did between two states of the journals, while the others rested
 pub record Tour (lane : ℕ) (es : List Event) (h j : List Noted) (g k : List GateNote) : Type 0 where
   pub metaslab : Follows right_of lane h (metaslab_steps 0 es) j
   pub gate : Follows gate_right lane g (gate_steps es) k
+  pub others : OthersRest lane h j g k
 
 -- free space was brought into memory, or was there already
 pub data Loads (lane : ℕ) (h : List Noted) : List Noted → Type 0 where

@@ -55,8 +55,11 @@ pub(crate) fn alloc<'a>(
     let Ok(count) = units_of(size, ASHIFT) else {
         return Ok(Answer::BadSize);
     };
-    let group = pool.gate.open_group();
-    let Some(seg) = look(&mut pool.metaslab, &pool.base, lane, group, count)? else {
+    let hold = pool.gate.hold();
+    let group = hold.group;
+    let found = look(&mut pool.metaslab, &pool.base, lane, group, count);
+    pool.gate.release(hold);
+    let Some(seg) = found? else {
         return Ok(Answer::NoSpace { looked: 1 });
     };
     add_block(blocks, name, seg)?;

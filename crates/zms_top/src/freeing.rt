@@ -64,8 +64,11 @@ pub(crate) fn free(pool: &mut Pool, lane: u8, placed: Option<Seg>) -> Result<Ans
     let Some(seg) = placed else {
         return Ok(Answer::NoName);
     };
-    let group = pool.gate.open_group();
-    match give_back(&mut pool.metaslab, &pool.base, lane, group, seg)? {
+    let hold = pool.gate.hold();
+    let group = hold.group;
+    let refused = give_back(&mut pool.metaslab, &pool.base, lane, group, seg);
+    pool.gate.release(hold);
+    match refused? {
         None => Ok(Answer::Done { group }),
         Some(unit) => Ok(Answer::NotLive {
             vdev: FIRST_METASLAB.vdev,

@@ -1,8 +1,8 @@
 //! One lane: its commands in order, each with its reply.
 
-ghost use Rattle.std.specs.Prelude.{◌≡◌, ℕ, ◌+◌, ◌^◌, ◌<◌, ◌≤◌, List, [], ◌∷◌, ◌++◌, length, map, None, IfOk};
+ghost use Rattle.std.specs.Prelude.{◌≡◌, ℕ, ◌+◌, ◌^◌, ◌<◌, ◌≤◌, List, [], ◌∷◌, ◌++◌, length, map, None, IsSome, IfOk};
 ghost use Rattle.std.specs.List.{All};
-ghost use Rattle.ms_model.specs.Gates.{open_group};
+ghost use Rattle.txg_gate.specs.Closings.{closings_of};
 ghost use Rattle.ms_core.specs.State.{origin_of, StaysButNotes};
 ghost use Rattle.zms_dev.specs.Disk.{Tells};
 ghost use Rattle.zms_top.specs.Script.{IsCommand};
@@ -35,7 +35,7 @@ fn run_command<'a, D: Disk>(
 ) -> Result<Answer, AllocError>
     requires pool { IsPool pool.old }
     requires lane { (1 ≤ lane) × (lane ≤ 16) }
-    requires small { open_group pool.old.gate.opened pool.old.gate.notes < 2 ^ 63 }
+    requires few { closings_of lane pool.old.gate.notes < 200000 }
     requires within { AreWithin pool.old.metaslab.units blocks.old }
     ensures acted { (done : List Replied) → first_fault done ≡ pool.old.first → AreNamed (ground_of (origin_of pool.old.metaslab)) done blocks.old → IfOk result (λ answer. Acted pool.old pool.new lane (WhatLine (ground_of (origin_of pool.old.metaslab)) lane done what.now answer)) }
     ensures learns { IfOk result (λ answer. Learns (ground_of (origin_of pool.old.metaslab)) what.now answer blocks.old blocks.new) }
@@ -44,6 +44,7 @@ fn run_command<'a, D: Disk>(
     ensures kept { Tells (D.state disk.old) → IfOk result (λ answer. pool.new.first ≡ None → IsKept (origin_of pool.old.metaslab) pool.old.metaslab.notes pool.new.metaslab.notes (D.state disk.old) (D.state disk.new)) }
     ensures later { D.faults disk.old ≤ D.faults disk.new }
     // Whatever is answered.
+    ensures suspended { IsSome pool.old.first → disk.new ≡ disk.old }
     ensures stays { StaysButNotes pool.old.metaslab pool.new.metaslab }
     ensures gate { pool.new.gate.opened ≡ pool.old.gate.opened }
 {
@@ -67,7 +68,7 @@ pub(crate) fn run_lane<D: Disk, M: Meet>(
     requires pool { IsPool pool.old }
     requires fresh { pool.old.first ≡ None }
     requires commands { All IsCommand commands.now }
-    requires small { open_group pool.old.gate.opened pool.old.gate.notes + length commands.now < 2 ^ 63 }
+    requires few { closings_of 1 pool.old.gate.notes + length commands.now ≤ 200000 }
     ensures each { IfOk result (λ replies. length replies.items ≡ length commands.now) }
     ensures ran { IfOk result (λ replies. HasRun pool.old pool.new (paired commands.now replies.items)) }
     ensures intervals { IfOk result (λ replies. AreIntervals (D.faults disk.old) (D.faults disk.new) (answers_of replies.items)) }

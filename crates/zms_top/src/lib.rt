@@ -2,14 +2,13 @@
 //!
 //! What a call promises is the contract of `zms`: how it ends, each way with its cause (`specs/Causes.antt`), and for
 //! a run that each reply is backed by the journals of the metaslab and of the gate, that both are legal, that what was
-//! printed is the text of the replies and of the journal's totals, and that each image which a stop now may leave
-//! holds the last synced group (`specs/Ends.antt`).
+//! printed is the text of the replies and of the journal's totals, that what was then traced is the text of the journals,
+//! and that each image which a stop now may leave holds the last synced group (`specs/Ends.antt`).
 #![tactic(auto)]
 
 mod allocating;
 mod blocks;
 mod freeing;
-mod gate;
 mod lane;
 mod look;
 mod pool;

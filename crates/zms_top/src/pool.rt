@@ -1,9 +1,9 @@
 //! A pool as a run keeps it: one metaslab, the gate, and the record that is committed to the device.
 
-use crate::gate::Gate;
 use crate::record::FirstRecord;
 use ms_core::{Metaslab, RunBuf};
 use seg_trees::PlainTrees;
+use txg_gate::Gate;
 use zms_units::{First, MsId, Seg};
 
 /// The shift of the one vdev's units: 4096 bytes.

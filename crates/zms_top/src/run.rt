@@ -15,17 +15,17 @@ ghost use Rattle.zms_top.specs.Shipping.{HasHandedOver, IsReported, LanesEnd};
 #[cfg(test)]
 mod stops;
 
-use crate::gate::Gate;
 use crate::lane::run_lane;
 use crate::pool::{ASHIFT, FIRST_METASLAB, Pool};
 use crate::record::{FirstRecord, Opened, StoreFault};
 use crate::script::{MAX_TEXT_BYTES, Script, TextFault, read_commands};
-use crate::shipping::{Room, hand_over, print, status_of, write_trace};
+use crate::shipping::{Room, hand_over, print, status_of, trace_journals};
 use crate::status::{OpenCause, PoolCause, RunLists, Status};
 use crate::{Command, Reply};
 use ms_core::{Metaslab, RunBuf};
 use ms_model::Journals;
 use std::alloc::{AllocError, Global};
+use txg_gate::Gate;
 use zms_dev::{Disk, Meet, ReadError, Sink, Source, read_text};
 use zms_units::{Class, Items, VdevRow};
 
@@ -150,7 +150,7 @@ fn reported<K: Sink, T: Sink>(
 {
     let printed = print(out, &pool, commands, &replies);
     let (journals, lists) = hand_over(alloc, pool, room, Items::from_vec(replies));
-    let written = write_trace(trace, printed, &journals);
+    let written = trace_journals(trace, printed, &journals);
     Ended {
         status: status_of(lists.replies.as_slice(), written),
         journals: Some(journals),

@@ -127,7 +127,7 @@ pub(crate) fn print<K: Sink>(
 }
 
 /// Writes the trace, where the replies and totals were printed. Takes no memory.
-pub(crate) fn write_trace<T: Sink>(
+pub(crate) fn trace_journals<T: Sink>(
     trace: &mut T,
     printed: Result<(), Failed>,
     journals: &Journals,

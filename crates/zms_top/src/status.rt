@@ -33,7 +33,7 @@ pub enum Status {
     BadText { line: u64 },
     /// The command file was not read to its end.
     ReadFault,
-    /// What was to be printed was not taken.
+    /// What was to be printed or traced was not taken.
     WriteFault,
     /// The pool device failed.
     DeviceFault,

@@ -1,12 +1,13 @@
 //! The command `sync`: the open group is closed and gathered, its record is committed, and it is settled.
 
-ghost use Rattle.std.specs.Prelude.{◌≡◌, ℕ, ◌+◌, ◌^◌, ◌<◌, ◌≤◌, Bool, true, false, not, ◌&&◌, ◌||◌, List, [], ◌∷◌, None, IfOk, OnOk, OnErr};
+ghost use Rattle.std.specs.Prelude.{◌≡◌, ℕ, ◌+◌, ◌^◌, ◌<◌, ◌≤◌, Bool, true, false, not, ◌&&◌, ◌||◌, List, [], ◌∷◌, None, IsSome, IfOk, OnOk, OnErr};
 ghost use Rattle.zms_units.specs.Segments.{covered, AreSegs};
 ghost use Rattle.ms_model.specs.Gains.{is_gained, is_given};
 ghost use Rattle.ms_model.specs.Gates.{open_group, synced_group};
 ghost use Rattle.zms_units.specs.Runs.{AreMaximalRuns};
 ghost use Rattle.ms_model.specs.declared.notes.Act.TheVariants.{Collect};
 ghost use Rattle.ms_core.specs.State.{origin_of, settled_of, collected_of, noted, StaysButNotes};
+ghost use Rattle.txg_gate.specs.Closings.{closings_of};
 ghost use Rattle.zms_dev.specs.Disk.{Tells};
 ghost use Rattle.zms_top.specs.Record.{is_set, IsStored};
 ghost use Rattle.zms_top.specs.Answers.{first_with};
@@ -70,7 +71,7 @@ fn close(pool: &mut Pool, lane: u8) -> Result<Group, AllocError>
     requires pool { IsPool pool.old }
     requires lane { (1 ≤ lane) × (lane ≤ 16) }
     requires no_fault { pool.old.first ≡ None }
-    requires small { open_group pool.old.gate.opened pool.old.gate.notes < 2 ^ 63 }
+    requires few { closings_of lane pool.old.gate.notes < 200000 }
     ensures closed { IfOk result (λ group. IsClosed pool.old pool.new lane group) }
     // Whatever is answered.
     ensures stays { StaysButNotes pool.old.metaslab pool.new.metaslab }
@@ -78,7 +79,9 @@ fn close(pool: &mut Pool, lane: u8) -> Result<Group, AllocError>
 {
     pool.gate.ready()?;
     pool.metaslab.ready()?;
-    let group = pool.gate.close_open(lane);
+    let Ok(group) = pool.gate.close_open(lane) else {
+        unreachable!()
+    };
     gather(&mut pool.metaslab, &mut pool.buf, lane, group)?;
     mark_runs(&mut pool.record, &pool.buf);
     Ok(group)
@@ -109,17 +112,19 @@ fn commit<D: Disk>(pool: &mut Pool, disk: &mut D, lane: u8, group: Group) -> Ans
     Answer::Done { group }
 }
 
-/// Makes all changes so far lasting, after `spa_sync`: one group, while no fault is kept.
+/// Makes all changes so far lasting, after `spa_sync`: one group, while no fault is kept. Once one is, the device is left
+/// alone.
 pub(crate) fn sync<D: Disk>(pool: &mut Pool, disk: &mut D, lane: u8) -> Result<Answer, AllocError>
     requires pool { IsPool pool.old }
     requires lane { (1 ≤ lane) × (lane ≤ 16) }
-    requires small { open_group pool.old.gate.opened pool.old.gate.notes < 2 ^ 63 }
+    requires few { closings_of lane pool.old.gate.notes < 200000 }
     ensures acted { IfOk result (λ answer. Acted pool.old pool.new lane (SyncLine (ground_of (origin_of pool.old.metaslab)) lane pool.old.first answer)) }
     ensures first { IfOk result (λ answer. pool.new.first ≡ first_with pool.old.first answer) }
     ensures intervals { IfOk result (λ answer. AreIntervals (D.faults disk.old) (D.faults disk.new) (answer ∷ [])) }
     ensures recorded { Tells (D.state disk.old) → IfOk result (λ answer. pool.new.first ≡ None → IsKept (origin_of pool.old.metaslab) pool.old.metaslab.notes pool.new.metaslab.notes (D.state disk.old) (D.state disk.new)) }
     ensures later { D.faults disk.old ≤ D.faults disk.new }
     // Whatever is answered.
+    ensures suspended { IsSome pool.old.first → disk.new ≡ disk.old }
     ensures stays { StaysButNotes pool.old.metaslab pool.new.metaslab }
     ensures gate { pool.new.gate.opened ≡ pool.old.gate.opened }
 {

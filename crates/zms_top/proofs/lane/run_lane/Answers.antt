@@ -1,4 +1,4 @@
-use Rattle.std.proofs.Common.{◌≡◌, ◌+◌, ◌++◌, ◌∷◌, [], length, take, refl, sym, ◌∙◌, ap, subst, arith, length-append}
+use Rattle.std.proofs.Common.{◌≡◌, ◌+◌, ◌<◌, ◌++◌, ◌∷◌, [], length, take, refl, sym, ◌∙◌, ap, subst, arith, length-append}
 use Rattle.std.proofs.lemmas.List.{take_all, length-take-le}
 use Rattle.zms_top.proofs.PairLemmas.{length-paired}
 use Rattle.std.proofs.lemmas.List.Elements.{All-get_or}
@@ -13,6 +13,7 @@ use Rattle.zms_top.specs.Sound.{ground_of}
 use Rattle.zms_top.specs.Running.{HasRun, answers_of}
 use Rattle.zms_top.proofs.NamingLemmas.{named_none, named_push}
 use Rattle.zms_top.specs.Script.{IsCommand}
+use Rattle.txg_gate.specs.Closings.{closings_of}
 use Rattle.zms_top.proofs.SyncSteps.{stays_both}
 use Rattle.zms_top.proofs.RunLemmas.{run_none, run_more, kept_none, kept_both, intervals_push, answers-push, paired-push, idle_before}
 use Rattle.zms_top.proofs.lane.run_lane.Goals as goal
@@ -79,10 +80,12 @@ returns g c =
       later = was.later;
     }
 
-pub run_command-requires-clause-small : goal.run_command-requires-clause-small
-run_command-requires-clause-small g c =
+pub run_command-requires-clause-few : goal.run_command-requires-clause-few
+run_command-requires-clause-few g c =
     let was = c.loop-command.invariant in
     let i = c.loop-command.command-index in
+    let item = c.command-item.result in
+    let is_command : IsCommand item = subst IsCommand (sym c.command-item.is) (All-get_or IsCommand c.args.commands.now i item c.loop-command-test.true c.requires.commands) in
     let front = length-take-le i c.args.commands.now (omega (arith, c.loop-command-test.true)) in
     let pairs = length-paired (take i c.args.commands.now) c.loop-command.replies.items (front ∙ sym was.each) in
-    omega (arith, was.ran.rises, pairs, front, c.requires.small, c.loop-command-test.true)
+    subst (λ l. closings_of l c.loop-command.pool.gate.notes < 200000) (sym is_command.lane) (omega (arith, was.ran.rises, pairs, front, c.requires.few, c.loop-command-test.true))

@@ -12,7 +12,7 @@ returns g c =
     let print : IsPrinted c.args.pool (paired c.args.commands.now replies)
     (sink (g.K.Sink.taken c.args.out.now) (g.K.Sink.faults c.args.out.now)) (sink (g.K.Sink.taken c.print-printed.new.out) (g.K.Sink.faults c.print-printed.new.out)) c.print-printed.result = rw c.deref.ensures.value at c.print-printed.ensures in
     let handed : HandsOver c.args.pool replies c.hand_over-journals.result.0 c.hand_over-journals.result.1 = rw c.from_vec.ensures at c.hand_over-journals.ensures in
-    let written = c.write_trace-written.result in
+    let written = c.trace_journals-written.result in
     record {
       some_journals = c.hand_over-journals.result.0;
       some_lists = c.hand_over-journals.result.1;
@@ -27,8 +27,8 @@ returns g c =
       writes = record {
         printed = c.print-printed.result;
         prints = print.prints;
-        traces = c.write_trace-written.ensures.traces;
-        stops = stops_by (λ t. sink (g.T.Sink.taken t) (g.T.Sink.faults t)) c.args.trace.now c.write_trace-written.new.trace c.print-printed.result written c.write_trace-written.ensures.stops;
+        traces = c.trace_journals-written.ensures.traces;
+        stops = stops_by (λ t. sink (g.T.Sink.taken t) (g.T.Sink.faults t)) c.args.trace.now c.trace_journals-written.new.trace c.print-printed.result written c.trace_journals-written.ensures.stops;
       };
       status_is = c.status_of.ensures ∙ ap (λ r. end_status (any_device r) written) (c.as_slice.ensures ∙ handed.replies_are);
     }

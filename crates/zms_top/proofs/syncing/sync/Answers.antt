@@ -1,6 +1,9 @@
-use Rattle.std.proofs.Common.{◌∙◌}
-use Rattle.zms_top.proofs.SyncSteps.{sync_did, kept_after}
+use Rattle.std.proofs.Common.{◌≡◌, true, false, ◌∙◌}
+use Rattle.zms_top.proofs.SyncSteps.{suspended_did, sync_did, kept_after}
 use Rattle.zms_top.proofs.syncing.sync.Goals as goal
+
+no_fault : false ≡ true → ⊥
+no_fault e = cc
 
 pub returns : goal.returns
 returns g c =
@@ -16,6 +19,10 @@ returns g c =
           (g.D.Disk.state c.args.disk.now) (g.D.Disk.state c.commit.new.disk)
           c.requires.pool c.in_default.is did.acted.pool closed committed none (c.commit.ensures.tells tells) (c.commit.ensures.leaves tells);
       later = did.later;
+      suspended = λ some. absurd (no_fault (rw c.in_default.is at some));
       stays = did.acted.stays;
       gate = c.commit.ensures.gate ∙ c.in_ok-group.ensures.gate;
     }
+
+pub returns-in-Some-clause-acted : goal.returns-in-Some-clause-acted
+returns-in-Some-clause-acted g c = suspended_did c.args.pool.now c.args.lane c.in-Some.first c.requires.pool c.in-Some.is
