@@ -11,9 +11,6 @@ ghost use Rattle.zms_units.specs.Runs.{IsAmple, IsNext, IsBest, NoneFrom, IsFit,
 ghost use Rattle.zms_units.specs.Cursors.{cursor_of};
 ghost use Rattle.fit_rule.specs.Laws.{OneFit};
 
-#[cfg(test)]
-mod tests;
-
 use zms_units::{FreeRuns, MAX_UNITS, Seg};
 
 /// Space may be ample where some run has this many bytes: OpenZFS's `metaslab_df_alloc_threshold`, 128 KiB.

@@ -12,8 +12,6 @@ mod free_space;
 mod looking;
 mod metaslab;
 mod stepping;
-#[cfg(test)]
-mod tests;
 mod walking;
 
 pub use buffer::RunBuf;

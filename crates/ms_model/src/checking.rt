@@ -375,6 +375,3 @@ pub fn legal(
     }
     Ok(None)
 }
-
-#[cfg(test)]
-mod tests;

@@ -14,8 +14,6 @@ mod journals;
 pub mod laws;
 mod looking;
 mod notes;
-#[cfg(test)]
-mod tests;
 
 pub use checking::legal;
 pub use journals::{ClassJournal, Journals, MsJournal};

@@ -9,9 +9,6 @@ ghost use Rattle.std.specs.Prelude.{◌↔◌, ◌^◌, ◌<◌, ◌≤◌, IsTr
 ghost use Rattle.zms_units.specs.Weights.{IsGreatest, IsEmpty, IsWeightOf, PassesOver};
 ghost use Rattle.ms_weight.specs.Laws.{NeverPassedOver};
 
-#[cfg(test)]
-mod tests;
-
 use zms_units::Histogram;
 
 /// The weight of a histogram of free runs: the number of its greatest bucket that is not empty in the high ten bits, and

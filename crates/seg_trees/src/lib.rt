@@ -14,6 +14,3 @@ mod trees;
 pub use plain::PlainTrees;
 pub use steps::Steps;
 pub use trees::{SegTrees, TREES};
-
-#[cfg(test)]
-mod tests;

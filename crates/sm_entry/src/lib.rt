@@ -9,8 +9,6 @@ ghost use Rattle.std.specs.Prelude.{◌≡◌, ℕ, ◌<◌, ◌≤◌, ◌↔�
 ghost use Rattle.sm_entry.specs.Grammar.{Says, HasBadPad, IsCutShort, IsFitting, size_of, entry_words};
 
 mod bits;
-#[cfg(test)]
-mod tests;
 mod words;
 
 use bits::decode;

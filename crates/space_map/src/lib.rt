@@ -13,8 +13,6 @@ pub mod laws;
 mod places;
 mod reading;
 mod sizing;
-#[cfg(test)]
-mod tests;
 mod writing;
 
 pub use faults::{AppendFault, DecodeFault};

@@ -10,8 +10,6 @@ mod classes;
 pub mod laws;
 mod metaslabs;
 mod pieces;
-#[cfg(test)]
-mod tests;
 mod traces;
 
 pub use metaslabs::write_metaslab_trace;

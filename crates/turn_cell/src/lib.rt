@@ -13,8 +13,6 @@ mod kept;
 mod law;
 mod pass;
 mod plays;
-#[cfg(test)]
-mod tests;
 mod turn;
 mod view;
 

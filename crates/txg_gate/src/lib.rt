@@ -12,7 +12,5 @@
 
 mod gate;
 mod kept;
-#[cfg(test)]
-mod tests;
 
 pub use gate::{Gate, Hold, TooMany};

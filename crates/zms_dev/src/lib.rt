@@ -26,6 +26,3 @@ pub use memory::{
 pub use runs::{put, read_part};
 pub use stream::{Sink, Source};
 pub use texts::{ReadError, read_text, write_whole};
-
-#[cfg(test)]
-mod tests;

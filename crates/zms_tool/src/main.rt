@@ -11,8 +11,6 @@ mod faults;
 mod file;
 mod files;
 mod streams;
-#[cfg(test)]
-mod tests;
 
 use files::PoolFiles;
 use std::alloc::Global;

@@ -12,9 +12,6 @@ ghost use Rattle.zms_top.specs.Answers.{paired};
 ghost use Rattle.zms_top.specs.Reporting.{sink};
 ghost use Rattle.zms_top.specs.Shipping.{HasHandedOver, IsReported, LanesEnd};
 
-#[cfg(test)]
-mod stops;
-
 use crate::lane::run_lane;
 use crate::pool::{ASHIFT, FIRST_METASLAB, Pool};
 use crate::record::{FirstRecord, Opened, StoreFault};

@@ -10,8 +10,6 @@ ghost use Rattle.zms_top.specs.Statuses.{fault_text};
 pub mod fields;
 mod lines;
 mod names;
-#[cfg(test)]
-mod tests;
 
 use fields::first_line;
 use lines::{Line, read_line};

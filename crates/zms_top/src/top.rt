@@ -153,6 +153,3 @@ where
         }
     }
 }
-
-#[cfg(test)]
-mod tests;

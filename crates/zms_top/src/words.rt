@@ -4,9 +4,6 @@ ghost use Rattle.std.specs.Prelude.{◌≡◌, ℕ, ◌≤◌, List, ◌∷◌, 
 ghost use Rattle.zms_top.specs.Words.{Asks, AsksNothing, IsPoolName, IsSecond, spec_text};
 ghost use Rattle.zms_top.specs.declared.words.Asked.{Asked};
 
-#[cfg(test)]
-mod tests;
-
 use crate::script::fields::{after, are_pool_bytes, before, number};
 
 /// What the words of the command line ask for.

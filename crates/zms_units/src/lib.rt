@@ -13,8 +13,6 @@ mod places;
 mod plain;
 mod rounding;
 mod segments;
-#[cfg(test)]
-mod tests;
 
 pub use blocks::{Block, Copies, Dva};
 pub use faults::{Damage, First, MapCause, MapFault};

@@ -1,6 +1,0 @@
-use Rattle.std.proofs.Common.{arith}
-use Rattle.txg_gate.proofs.Closings.{closings_of_most}
-use Rattle.txg_gate.proofs.tests.close_next.Goals as goal
-
-pub close_open-requires-clause-few : goal.close_open-requires-clause-few
-close_open-requires-clause-few g c = rw c.ready.ensures.stays (omega (arith, closings_of_most c.args.lane c.args.gate.now.notes))
