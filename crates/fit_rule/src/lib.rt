@@ -1,23 +1,21 @@
 //! The fit: by which run of free units a metaslab answers a request.
 //!
 //! Where space is ample, a first fit that goes on from the request's cursor; where it is scarce, the best fit. To the
-//! layer above it promises that `fit` answers exactly the fit as `zms_units` defines it, and `None` exactly where no so
-//! many free units stand in a row; and by `one_fit` that a question has no second fit.
+//! layer above it promises that `fit` answers exactly the fit as `zms_units` defines it, for every `FreeRuns`, and
+//! `None` exactly where no so many free units stand in a row; and by `one_fit` that a question has no second fit.
+//! That it makes a constant number of calls, at most five, is seen in the code and not proved.
 #![tactic(auto)]
 
-ghost use Rattle.std.specs.Prelude.{◌≡◌, ◌*◌, ◌^◌, ◌≤◌, IfSome, IfNone, slice_index};
+ghost use Rattle.std.specs.Prelude.{◌≤◌, IfSome, IfNone, slice_index};
 ghost use Rattle.std.specs.Bool.{OnTrue, OnFalse};
+ghost use Rattle.zms_units.specs.Limits.{IsShift};
 ghost use Rattle.zms_units.specs.Runs.{IsAmple, IsNext, IsBest, NoneFrom, IsFit, NoneInRow};
 ghost use Rattle.zms_units.specs.Cursors.{cursor_of};
 ghost use Rattle.fit_rule.specs.Laws.{OneFit};
 
-use zms_units::{FreeRuns, MAX_UNITS, Seg};
-
-/// Space may be ample where some run has this many bytes: OpenZFS's `metaslab_df_alloc_threshold`, 128 KiB.
-const AMPLE_BYTES: u64 = 131_072;
-
-/// And where at least one unit in so many is free: OpenZFS's `metaslab_df_free_pct`, 4 percent.
-const AMPLE_SHARE: u64 = 25;
+use zms_units::{
+    AMPLE_BYTES, AMPLE_SHARE, CURSORS, FreeRuns, MAX_ASHIFT, MAX_UNITS, Seg, bytes_of, cursor_place,
+};
 
 /// The `count` units by which a metaslab answers a request, in units of `2^ashift` bytes.
 ///
@@ -27,14 +25,13 @@ const AMPLE_SHARE: u64 = 25;
 ///
 /// The cursor is the one of the count's lowest set bit. After OpenZFS's `metaslab_df_alloc`, whose `ms_lbas` are the
 /// cursors. Makes at most five calls on the runs.
-#[tactic(auto, using(crate::proofs::Places::cursor_below))]
-pub fn fit<F: FreeRuns>(free: &F, ashift: u8, cursors: &[u32; 18], count: u32) -> Option<Seg>
-    requires shift { (9 ≤ ashift) × (ashift ≤ 12) }
+pub fn fit<F: FreeRuns>(free: &F, ashift: u8, cursors: &[u32; CURSORS], count: u32) -> Option<Seg>
+    requires shift { IsShift ashift }
     requires count { (1 ≤ count) × (count ≤ MAX_UNITS) }
     ensures fit { IfSome result (IsFit (F.free free.now).has (F.free free.now).range ashift (slice_index cursors.now (cursor_of count)) count) }
     ensures none { IfNone result (NoneInRow (F.free free.now).has (F.free free.now).range count) }
 {
-    let cursor = cursors[count.trailing_zeros() as usize];
+    let cursor = cursors[cursor_place(count)];
     let run = chosen_run(free, ashift, cursor, count)?;
     Some(Seg {
         start: run.start,
@@ -44,7 +41,7 @@ pub fn fit<F: FreeRuns>(free: &F, ashift: u8, cursors: &[u32; 18], count: u32) -
 
 /// The run whose first units are the fit.
 fn chosen_run<F: FreeRuns>(free: &F, ashift: u8, cursor: u32, count: u32) -> Option<Seg>
-    requires { ashift ≤ 12 }
+    requires { ashift ≤ MAX_ASHIFT }
     ensures ample { IfSome result (λ run. IsAmple (F.free free.now).has (F.free free.now).range ashift → IsNext (F.free free.now).has (F.free free.now).range cursor count run) }
     ensures scarce { IfSome result (λ run. (IsAmple (F.free free.now).has (F.free free.now).range ashift → ⊥) → IsBest (F.free free.now).has (F.free free.now).range count run) }
     ensures none { IfNone result (NoneFrom (F.free free.now).has (F.free free.now).range count 0) }
@@ -58,20 +55,12 @@ fn chosen_run<F: FreeRuns>(free: &F, ashift: u8, cursor: u32, count: u32) -> Opt
 
 /// Is space ample?
 fn is_ample<F: FreeRuns>(free: &F, ashift: u8) -> bool
-    requires { ashift ≤ 12 }
+    requires { ashift ≤ MAX_ASHIFT }
     ensures yes { OnTrue result (IsAmple (F.free free.now).has (F.free free.now).range ashift) }
     ensures no { OnFalse result (IsAmple (F.free free.now).has (F.free free.now).range ashift → ⊥) }
 {
     let largest = bytes_of(free.largest(), ashift);
-    largest >= AMPLE_BYTES && AMPLE_SHARE * free.units() as u64 >= free.range() as u64
-}
-
-/// A count of units in bytes.
-fn bytes_of(count: u32, ashift: u8) -> u64
-    requires { ashift ≤ 12 }
-    ensures { result ≡ count * 2 ^ ashift }
-{
-    (count as u64) << ashift
+    largest >= AMPLE_BYTES as u64 && AMPLE_SHARE as u64 * free.units() as u64 >= free.range() as u64
 }
 
 /// The next run of at least `count` units from a cursor on.

@@ -1,19 +1,6 @@
 -- Which units a group may free, by the trees alone.
-use Rattle.std.proofs.Common.{◌≡◌, ℕ, ◌+◌, ◌-◌, ◌≤◌, ◌<◌, true, false, Some, None, List, refl, sym, ◌∙◌, ap, arith, ◌⊎◌, inl, inr}
-use Rattle.std.specs.Prelude.{not, ◌%◌}
-use Rattle.std.proofs.lemmas.Bool.{le-ltb}
-use Rattle.zms_units.proofs.UnitTests.{le_or, same_not}
-use Rattle.seg_trees.specs.Sets.{Sets}
-use Rattle.ms_model.specs.Origin.{Origin}
-use Rattle.ms_model.specs.Units.{LastAct, granted, freed, taken_back, untouched, last_act, is_grant, settled_group, collected_group, is_loaded}
-use Rattle.ms_model.specs.Spaces.{keeps_busy}
-use Rattle.ms_model.specs.Gains.{is_gained, is_given}
-use Rattle.ms_model.specs.Legal.{IsGrantedBy, IsLegal}
-use Rattle.ms_model.specs.declared.notes.Noted.{Noted}
-use Rattle.ms_model.proofs.UnitFacts.{IsGainOf}
-use Rattle.ms_model.proofs.Overlaps.{settled_le_collected, opened_le_settled}
-use Rattle.ms_model.proofs.Changes.{gained_far, given_far, gained_last, last_gained, last_given, last_opened, granted_by_live, live_busy, live_not_given}
-use Rattle.ms_core.specs.Mirrors.{Mirrors, IsBarred, by_vacant, by_given, by_gained, allocating_of, freeing_of, deferred_of}
+use Rattle.std.proofs.Common.{◌≡◌, ℕ, ◌+◌, ◌-◌, ◌≤◌, ◌<◌, Bool, true, false, Some, None, List, refl, sym, ◌∙◌, ap, arith, ◌⊎◌, inl, inr}
+use Rattle.ms_core.proofs.Words.{not, ◌%◌, le-ltb, le_or, same_not, Sets, Origin, LastAct, granted, freed, taken_back, untouched, last_act, is_grant, settled_group, collected_group, is_loaded, keeps_busy, is_gained, is_given, IsGrantedBy, IsLegal, Noted, IsGainOf, settled_le_collected, opened_le_settled, gained_far, given_far, gained_last, last_gained, last_given, last_opened, granted_by_live, live_busy, live_not_given, Mirrors, IsBarred, by_vacant, by_given, by_gained, allocating_of, freeing_of, deferred_of}
 
 -- each tree of what was given back is that of one group
 freeing_group : (s tree : ℕ) → 5 ≤ tree → tree ≤ 8 → (t : ℕ) × (s < t) × (t ≤ s + 4) × (tree ≡ freeing_of t)
@@ -27,6 +14,17 @@ gain_by t group (granted lane g) live gain some = omega arith
 gain_by t group (freed g) live gain some = absurd live
 gain_by t group taken_back live gain some = absurd live
 gain_by t group untouched live gain some = absurd live
+
+-- the group of a gain or a gift is at most three above the settled one
+near_by : (s t : ℕ) (b : Bool) → b ≡ true → (s + 3 < t → b ≡ false) → (t ≤ s + 3) ⊎ (s + 3 < t) → t ≤ s + 3
+near_by s t b e far (inl le) = le
+near_by s t b e far (inr lt) = absurd (same_not e (far lt))
+
+pub gained_near : (o : Origin) (h : List Noted) (t u : ℕ) → IsLegal o h → is_gained t h u ≡ true → t ≤ settled_group o h + 3
+gained_near o h t u legal e = near_by (settled_group o h) t (is_gained t h u) e (gained_far o h t u legal) (le_or t (settled_group o h + 3))
+
+given_near : (o : Origin) (h : List Noted) (t u : ℕ) → IsLegal o h → is_given t h u ≡ true → t ≤ settled_group o h + 3
+given_near o h t u legal e = near_by (settled_group o h) t (is_given t h u) e (given_far o h t u legal) (le_or t (settled_group o h + 3))
 
 module _ (o : Origin) (h : List Noted) (sets : Sets) (legal : IsLegal o h) (m : Mirrors o h sets) (loaded : is_loaded h ≡ true) (group u : ℕ) (inside : u < o.units)
     (open_group : collected_group o h < group) where
@@ -55,19 +53,6 @@ module _ (o : Origin) (h : List Noted) (sets : Sets) (legal : IsLegal o h) (m : 
       let up_to : t ≤ group = gain_by t group (last_act o h u) live (gained_last o h t u legal (omega (arith, order)) gained) (omega arith) in
       omega arith
 
-  -- the group of a gain or a gift is near
-  near_gain : (t : ℕ) → is_gained t h u ≡ true → t ≤ settled_group o h + 3
-  near_gain t gained = by_place (le_or t (settled_group o h + 3)) where
-    by_place : (t ≤ settled_group o h + 3) ⊎ (settled_group o h + 3 < t) → t ≤ settled_group o h + 3
-    by_place (inl le) = le
-    by_place (inr far) = absurd (same_not gained (gained_far o h t u legal far))
-
-  near_gift : (t : ℕ) → is_given t h u ≡ true → t ≤ settled_group o h + 3
-  near_gift t given = by_place (le_or t (settled_group o h + 3)) where
-    by_place : (t ≤ settled_group o h + 3) ⊎ (settled_group o h + 3 < t) → t ≤ settled_group o h + 3
-    by_place (inl le) = le
-    by_place (inr far) = absurd (same_not given (given_far o h t u legal far))
-
   freed_barred : (g : ℕ) → last_act o h u ≡ freed g → IsBarred o h sets group u
   freed_barred g e = by_age (le_or (g + 2) (settled_group o h)) (le_or g (settled_group o h)) where
     given : is_given g h u ≡ true
@@ -80,7 +65,7 @@ module _ (o : Origin) (h : List Noted) (sets : Sets) (legal : IsLegal o h) (m : 
         by_given (deferred_of (g + 2)) (omega arith) (omega arith)
         (m.deferred (g + 2) u young (omega arith) ∙ (let same : g + 2 - 2 ≡ g = omega arith in ap (λ n. is_given n h u) same ∙ given))
     by_age (inr young) (inr later) =
-        by_given (freeing_of g) (omega arith) (omega arith) (m.given g u later (omega (arith, near_gift g given)) ∙ given)
+        by_given (freeing_of g) (omega arith) (omega arith) (m.given g u later (omega (arith, given_near o h g u legal given)) ∙ given)
 
   vacant_barred : (last : LastAct) → last_act o h u ≡ last → keeps_busy (settled_group o h) last ≡ false → IsBarred o h sets group u
   vacant_barred last e idle =
@@ -93,7 +78,7 @@ module _ (o : Origin) (h : List Noted) (sets : Sets) (legal : IsLegal o h) (m : 
     by_group (inl le) = inl le
     by_group (inr later) =
         let gained : is_gained g h u ≡ true = last_gained o h u lane g e in
-        inr (by_gained g later (omega (arith, near_gain g gained, order)) (m.gained g u (omega arith) (omega (arith, near_gain g gained, order)) ∙ gained))
+        inr (by_gained g later (omega (arith, gained_near o h g u legal gained, order)) (m.gained g u (omega arith) (omega (arith, gained_near o h g u legal gained, order)) ∙ gained))
   live_or_barred (freed g) e = inr (freed_barred g e)
   live_or_barred taken_back e = inr (vacant_barred taken_back e refl)
   live_or_barred untouched e = inr (vacant_barred untouched e refl)

@@ -1,31 +1,7 @@
 -- The totals of a metaslab, after each act.
-use Rattle.std.proofs.Common.{◌≡◌, ℕ, zero, suc, ◌+◌, ◌-◌, ◌≤◌, ◌<◌, Bool, true, false, cond, Some, None, List, [], refl, sym, ◌∙◌, ap, arith}
-use Rattle.std.specs.Prelude.{◌||◌, ◌&&◌, not}
-use Rattle.std.specs.List.{count_by, range_with_len}
-use Rattle.std.proofs.lemmas.Bool.{lt-ltb}
-use Rattle.zms_units.specs.declared.segments.Seg.{Seg}
-use Rattle.zms_units.specs.declared.segments.Group.{Group}
-use Rattle.zms_units.specs.Segments.{covers, end_of}
-use Rattle.zms_units.specs.Runs.{units_in}
-use Rattle.zms_units.proofs.UnitTests.{covers_true}
-use Rattle.zms_units.proofs.Counting.{units_same, units_none, units_or, units_seg}
-use Rattle.seg_trees.specs.Sets.{Sets, size_of, range}
-use Rattle.ms_model.specs.Origin.{Origin}
-use Rattle.ms_model.specs.Units.{LastAct, granted, freed, taken_back, untouched, act_on, last_act, is_grant, settled_by, settled_group}
-use Rattle.ms_model.specs.Spaces.{keeps_busy, is_live, is_deferred}
-use Rattle.ms_model.specs.Gains.{is_given}
-use Rattle.ms_model.specs.Counts.{live_units, deferred_units}
-use Rattle.ms_model.specs.Laws.{IsFreeOfAll}
-use Rattle.ms_model.specs.Legal.{MayGrant, MayFree, MayTakeBack, IsLegal}
-use Rattle.ms_model.specs.declared.notes.Act.{Act}
-use Rattle.ms_model.specs.declared.notes.Act.TheVariants.{Grant, Free, Unalloc, Settle}
-use Rattle.ms_model.specs.declared.notes.Noted.{Noted}
-use Rattle.ms_model.proofs.Histories.{last_act-push, settled_group-push}
-use Rattle.ms_model.proofs.Overlaps.{vacant_free}
-use Rattle.ms_model.proofs.Totals.{count_by_cons}
-use Rattle.ms_model.proofs.Changes.{leaves_units, still_act, granted_by_live, live_not_given, given_busy, open_settled, vacant_next}
-use Rattle.ms_core.specs.Mirrors.{Mirrors, deferred_of}
-use Rattle.ms_core.proofs.Mirrored.{after_act}
+use Rattle.std.proofs.Common.{◌≡◌, ℕ, ◌+◌, ◌-◌, ◌≤◌, ◌<◌, Bool, true, false, cond, Some, None, List, [], refl, sym, ◌∙◌, ap, arith}
+use Rattle.ms_core.proofs.Words.{noted, ◌||◌, ◌&&◌, not, lt-ltb, Seg, Group, covers, end_of, units_in, covers_true, units_same, units_none, units_or, units_seg, all_units, Sets, size_of, Origin, LastAct, granted, freed, taken_back, untouched, act_on, last_act, is_grant, settled_by, settled_group, keeps_busy, is_live, is_deferred, is_given, live_units, deferred_units, IsFreeOfAll, MayGrant, MayFree, MayTakeBack, IsLegal, Act, Grant, Free, Unalloc, Settle, Noted, last_act-push, settled_group-push, vacant_free, leaves_units, still_act, granted_by_live, live_not_given, given_busy, open_settled, vacant_next, Mirrors, deferred_of}
+use Rattle.ms_core.proofs.Narrowing.{size_down, range_le}
 
 -- before the first note
 
@@ -56,13 +32,13 @@ joined before after seg units within is apart =
 abbrev waits : ℕ → LastAct → Bool
 waits s last = keeps_busy s last && not (is_grant last)
 
-live_push : (o : Origin) (h : List Noted) (lane : ℕ) (act : Act) (u : ℕ) → is_live o (after_act h lane act) u ≡ is_grant (act_on u (last_act o h u) lane act)
+live_push : (o : Origin) (h : List Noted) (lane : ℕ) (act : Act) (u : ℕ) → is_live o (noted h lane act) u ≡ is_grant (act_on u (last_act o h u) lane act)
 live_push o h lane act u = ap is_grant (last_act-push o h (record { lane = lane; act = act }) u)
 
 deferred_push : (o : Origin) (h : List Noted) (lane : ℕ) (act : Act) (u : ℕ)
-    → is_deferred o (after_act h lane act) u ≡ waits (settled_by (settled_group o h) act) (act_on u (last_act o h u) lane act)
+    → is_deferred o (noted h lane act) u ≡ waits (settled_by (settled_group o h) act) (act_on u (last_act o h u) lane act)
 deferred_push o h lane act u =
-    ap (λ n. waits n (last_act o (after_act h lane act) u)) (settled_group-push o h (record { lane = lane; act = act }))
+    ap (λ n. waits n (last_act o (noted h lane act) u)) (settled_group-push o h (record { lane = lane; act = act }))
     ∙ ap (waits (settled_by (settled_group o h) act)) (last_act-push o h (record { lane = lane; act = act }) u)
 
 -- one unit
@@ -122,60 +98,61 @@ module _ (o : Origin) (h : List Noted) (legal : IsLegal o h) where
   own_in : (lane group : ℕ) (seg : Seg) → MayTakeBack o h lane group seg → (u : ℕ) → covers seg u ≡ true → is_live o h u ≡ true
   own_in lane group seg may u c = ap is_grant (may.own u (covers_true seg u c))
 
-  pub live_grant : (lane : ℕ) (group : Group) (seg : Seg) → MayGrant o h group.0 seg → live_units o (after_act h lane (Grant group seg)) ≡ live_units o h + seg.count
+  pub live_grant : (lane : ℕ) (group : Group) (seg : Seg) → MayGrant o h group.0 seg → live_units o (noted h lane (Grant group seg)) ≡ live_units o h + seg.count
   live_grant lane group seg may =
-      joined (is_live o h) (is_live o (after_act h lane (Grant group seg))) seg o.units may.within.within
+      joined (is_live o h) (is_live o (noted h lane (Grant group seg))) seg o.units may.within.within
       (λ u. live_push o h lane (Grant group seg) u ∙ live_by_grant (covers seg u) lane group.0 (last_act o h u))
       (λ u c. (vacant_in group.0 seg may u c).live)
 
-  pub deferred_grant : (lane : ℕ) (group : Group) (seg : Seg) → MayGrant o h group.0 seg → deferred_units o (after_act h lane (Grant group seg)) ≡ deferred_units o h
+  pub deferred_grant : (lane : ℕ) (group : Group) (seg : Seg) → MayGrant o h group.0 seg → deferred_units o (noted h lane (Grant group seg)) ≡ deferred_units o h
   deferred_grant lane group seg may =
-      units_same (is_deferred o (after_act h lane (Grant group seg))) (is_deferred o h) o.units
+      units_same (is_deferred o (noted h lane (Grant group seg))) (is_deferred o h) o.units
       (λ u. deferred_push o h lane (Grant group seg) u
       ∙ waits_by_grant (covers seg u) (settled_group o h) lane group.0 (last_act o h u) (λ c. (vacant_in group.0 seg may u c).deferred))
 
-  pub live_free : (lane : ℕ) (group : Group) (seg : Seg) → MayFree o h group.0 seg → live_units o (after_act h lane (Free group seg)) + seg.count ≡ live_units o h
-  live_free lane group seg may =
-      sym (joined (is_live o (after_act h lane (Free group seg))) (is_live o h) seg o.units may.within.within
-      (λ u. live_before (covers seg u) (freed group.0) (last_act o h u) refl (live_in group.0 seg may u)
-      ∙ ap (λ b. covers seg u || b) (sym (live_push o h lane (Free group seg) u)))
-      (λ u c. live_push o h lane (Free group seg) u ∙ not_live_after (covers seg u) (freed group.0) (last_act o h u) refl c))
+  -- a segment that was handed out is not any more
+  live_gone : (lane : ℕ) (act : Act) (seg : Seg) (now : LastAct) → is_grant now ≡ false → ((u : ℕ) (last : LastAct) → act_on u last lane act ≡ cond (covers seg u) now last) → end_of seg ≤ o.units
+      → ((u : ℕ) → covers seg u ≡ true → is_live o h u ≡ true) → live_units o (noted h lane act) + seg.count ≡ live_units o h
+  live_gone lane act seg now gone does within live =
+      let after : (u : ℕ) → is_live o (noted h lane act) u ≡ is_grant (cond (covers seg u) now (last_act o h u)) = λ u. live_push o h lane act u ∙ ap is_grant (does u (last_act o h u)) in
+      sym (joined (is_live o (noted h lane act)) (is_live o h) seg o.units within
+      (λ u. live_before (covers seg u) now (last_act o h u) gone (live u) ∙ ap (λ b. covers seg u || b) (sym (after u)))
+      (λ u c. after u ∙ not_live_after (covers seg u) now (last_act o h u) gone c))
 
-  pub deferred_free : (lane : ℕ) (group : Group) (seg : Seg) → MayFree o h group.0 seg → deferred_units o (after_act h lane (Free group seg)) ≡ deferred_units o h + seg.count
+  pub live_free : (lane : ℕ) (group : Group) (seg : Seg) → MayFree o h group.0 seg → live_units o (noted h lane (Free group seg)) + seg.count ≡ live_units o h
+  live_free lane group seg may = live_gone lane (Free group seg) seg (freed group.0) refl (λ u last. refl) may.within.within (live_in group.0 seg may)
+
+  pub live_unalloc : (lane : ℕ) (group : Group) (seg : Seg) → MayTakeBack o h lane group.0 seg → live_units o (noted h lane (Unalloc group seg)) + seg.count ≡ live_units o h
+  live_unalloc lane group seg may = live_gone lane (Unalloc group seg) seg taken_back refl (λ u last. refl) may.within.within (own_in lane group.0 seg may)
+
+  pub deferred_free : (lane : ℕ) (group : Group) (seg : Seg) → MayFree o h group.0 seg → deferred_units o (noted h lane (Free group seg)) ≡ deferred_units o h + seg.count
   deferred_free lane group seg may =
-      joined (is_deferred o h) (is_deferred o (after_act h lane (Free group seg))) seg o.units may.within.within
+      joined (is_deferred o h) (is_deferred o (noted h lane (Free group seg))) seg o.units may.within.within
       (λ u. deferred_push o h lane (Free group seg) u
       ∙ waits_by_free (covers seg u) (settled_group o h) group.0 (last_act o h u) (omega (arith, open_settled o h legal group.0 may.open_group.above)))
       (λ u c. waits_live (settled_group o h) (last_act o h u) (live_in group.0 seg may u c))
 
-  pub live_unalloc : (lane : ℕ) (group : Group) (seg : Seg) → MayTakeBack o h lane group.0 seg → live_units o (after_act h lane (Unalloc group seg)) + seg.count ≡ live_units o h
-  live_unalloc lane group seg may =
-      sym (joined (is_live o (after_act h lane (Unalloc group seg))) (is_live o h) seg o.units may.within.within
-      (λ u. live_before (covers seg u) taken_back (last_act o h u) refl (own_in lane group.0 seg may u)
-      ∙ ap (λ b. covers seg u || b) (sym (live_push o h lane (Unalloc group seg) u)))
-      (λ u c. live_push o h lane (Unalloc group seg) u ∙ not_live_after (covers seg u) taken_back (last_act o h u) refl c))
-
-  pub deferred_unalloc : (lane : ℕ) (group : Group) (seg : Seg) → MayTakeBack o h lane group.0 seg → deferred_units o (after_act h lane (Unalloc group seg)) ≡ deferred_units o h
+  pub deferred_unalloc : (lane : ℕ) (group : Group) (seg : Seg) → MayTakeBack o h lane group.0 seg → deferred_units o (noted h lane (Unalloc group seg)) ≡ deferred_units o h
   deferred_unalloc lane group seg may =
-      units_same (is_deferred o (after_act h lane (Unalloc group seg))) (is_deferred o h) o.units
+      units_same (is_deferred o (noted h lane (Unalloc group seg))) (is_deferred o h) o.units
       (λ u. deferred_push o h lane (Unalloc group seg) u ∙ waits_by_unalloc (covers seg u) (settled_group o h) (last_act o h u) (own_in lane group.0 seg may u))
 
   -- an act that changes no unit
-  pub live_still : (lane : ℕ) (act : Act) → leaves_units act ≡ true → live_units o (after_act h lane act) ≡ live_units o h
+  pub live_still : (lane : ℕ) (act : Act) → leaves_units act ≡ true → live_units o (noted h lane act) ≡ live_units o h
   live_still lane act leaves =
-      units_same (is_live o (after_act h lane act)) (is_live o h) o.units (λ u. live_push o h lane act u ∙ ap is_grant (still_act u (last_act o h u) lane act leaves))
+      units_same (is_live o (noted h lane act)) (is_live o h) o.units (λ u. live_push o h lane act u ∙ ap is_grant (still_act u (last_act o h u) lane act leaves))
 
   -- and settles nothing
-  pub deferred_still : (lane : ℕ) (act : Act) → leaves_units act ≡ true → settled_by (settled_group o h) act ≡ settled_group o h → deferred_units o (after_act h lane act) ≡ deferred_units o h
+  pub deferred_still : (lane : ℕ) (act : Act) → leaves_units act ≡ true → settled_by (settled_group o h) act ≡ settled_group o h → deferred_units o (noted h lane act) ≡ deferred_units o h
   deferred_still lane act leaves same =
-      units_same (is_deferred o (after_act h lane act)) (is_deferred o h) o.units
+      units_same (is_deferred o (noted h lane act)) (is_deferred o h) o.units
       (λ u. deferred_push o h lane act u
       ∙ (ap (λ n. waits n (act_on u (last_act o h u) lane act)) same ∙ ap (waits (settled_group o h)) (still_act u (last_act o h u) lane act leaves)))
 
   pub deferred_settle : (sets : Sets) → Mirrors o h sets → (lane : ℕ) (group : Group) → group.0 ≡ settled_group o h + 1
-      → deferred_units o (after_act h lane (Settle group)) + units_in (sets (deferred_of group.0)) o.units ≡ deferred_units o h
+      → deferred_units o (noted h lane (Settle group)) + units_in (sets (deferred_of group.0)) o.units ≡ deferred_units o h
   deferred_settle sets m lane group next =
-      let later : ℕ → Bool = is_deferred o (after_act h lane (Settle group)) in
+      let later : ℕ → Bool = is_deferred o (noted h lane (Settle group)) in
       let gift : ℕ → Bool = is_given (group.0 - 2) h in
       let e : units_in (is_deferred o h) o.units ≡ units_in (λ u. gift u || later u) o.units =
       units_same (is_deferred o h) (λ u. gift u || later u) o.units
@@ -196,27 +173,5 @@ module _ (o : Origin) (h : List Noted) (legal : IsLegal o h) where
           by_live false e = refl
 
 -- what a tree counts are the units of its set
-
-count_none_from : (set : ℕ → Bool) (low n : ℕ) → ((u : ℕ) → low ≤ u → set u ≡ false) → count_by set (range_with_len low n) ≡ 0
-count_none_from set low zero none = refl
-count_none_from set low (suc n) none =
-    let e : ◌≡◌ {A = ℕ} (cond (set low) 1 0) 0 = rw (none low (omega arith)) in
-    omega (arith, count_by_cons set low (range_with_len (low + 1) n), count_none_from set (low + 1) n (λ u h. none u (omega arith)))
-
-count_more : (set : ℕ → Bool) (low n most : ℕ) → n ≤ most → ((u : ℕ) → low + n ≤ u → set u ≡ false) → count_by set (range_with_len low most) ≡ count_by set (range_with_len low n)
-count_more set low zero most le none = count_none_from set low most (λ u h. none u (omega arith))
-count_more set low (suc n) zero le none = absurd (omega arith)
-count_more set low (suc n) (suc most) le none =
-    omega (
-      arith,
-      count_by_cons set low (range_with_len (low + 1) most),
-      count_by_cons set low (range_with_len (low + 1) n),
-      count_more set (low + 1) n most (omega arith) (λ u h. none u (omega arith)),
-    )
-
-range_is : range ≡ 131072
-unfolding range
-range_is = refl
-
 pub size_units : (o : Origin) (h : List Noted) (sets : Sets) → Mirrors o h sets → o.units ≤ 131072 → (tree : ℕ) → size_of (sets tree) ≡ units_in (sets tree) o.units
-size_units o h sets m most tree = count_more (sets tree) 0 o.units range (omega (arith, range_is)) (λ u above. m.within tree u (omega arith))
+size_units o h sets m most tree = size_down (sets tree) o.units all_units (range_le o.units most) (m.within tree)

@@ -1,36 +1,8 @@
 -- What a metaslab keeps of itself stays true through each act.
-use Rattle.std.proofs.Common.{◌≡◌, ℕ, ◌+◌, ◌-◌, ◌≤◌, ◌<◌, Bool, true, false, cond, Some, None, List, [], refl, sym, ◌∙◌, ap, subst, arith}
-use Rattle.std.specs.Prelude.{◌||◌, ◌&&◌, not, ◌==◌, ◌≢◌, slice_index}
-use Rattle.std.specs.List.{All}
-use Rattle.std.proofs.lemmas.List.Elements.{All-nil, All-push}
-use Rattle.zms_units.specs.declared.segments.Seg.{Seg}
-use Rattle.zms_units.specs.declared.segments.Group.{Group}
-use Rattle.zms_units.specs.Segments.{end_of, covers, covered, Covers, AreSegs}
-use Rattle.zms_units.specs.Runs.{units_in, begins_run, run_count, IsFit, NoneInRow, AreMaximalRuns}
-use Rattle.zms_units.specs.Cursors.{cursor_of}
-use Rattle.zms_units.proofs.UnitTests.{same_not}
-use Rattle.zms_units.proofs.Fits.{fit_within, fit_inside}
-use Rattle.zms_units.proofs.Along.{SameBelow, fit_along, row_along, maximal_along}
-use Rattle.zms_units.proofs.Counting.{run_count_same, units_none}
-use Rattle.zms_units.proofs.Maximal.{apart_maximal}
-use Rattle.seg_trees.specs.Sets.{range as all_units, nodes_of, Sets, AllStay, OthersStay, OthersStayBut}
-use Rattle.ms_model.specs.Origin.{Origin}
-use Rattle.ms_model.specs.Units.{granted, untouched, is_grant, last_act, settled_by, settled_group, collected_by, collected_group, loaded_by, is_loaded, disabled_by, worker_at, held}
-use Rattle.ms_model.specs.Spaces.{is_vacant}
-use Rattle.ms_model.specs.Counts.{live_units, deferred_units}
-use Rattle.ms_model.specs.Cursors.{cursor_by, cursor_at}
-use Rattle.ms_model.specs.Legal.{IsWithin, IsGrantedBy, MayDo, MayMiss, MayGrant, MayFree, MayTakeBack, TakesRequests, IsLegal}
-use Rattle.ms_model.specs.Gains.{is_gained, is_given}
-use Rattle.ms_model.specs.declared.notes.Act.{Act}
-use Rattle.ms_model.specs.declared.notes.Act.TheVariants.{Grant, Free, Unalloc, Miss, Collect, Settle, Load, Unload}
-use Rattle.ms_model.specs.declared.notes.Noted.{Noted}
-use Rattle.ms_model.proofs.Histories.{settled_group-push, collected_group-push, is_loaded-push, worker_at-push, cursor_at-push, legal_push, legal_none}
-use Rattle.ms_model.proofs.Changes.{held_unloaded, vacant_unloaded, given_far}
-use Rattle.ms_core.specs.Mirrors.{Mirrors, Settles, allocating_of, freeing_of, deferred_of}
-use Rattle.ms_core.specs.Kept.{Book, IsKept, origin_in}
+use Rattle.std.proofs.Common.{◌≡◌, ℕ, ◌+◌, ◌-◌, ◌≤◌, ◌<◌, Bool, true, false, cond, Option, Some, None, IfSome, IfNone, List, [], refl, sym, ◌∙◌, ap, subst, arith}
+use Rattle.ms_core.proofs.Words.{cursor_below, noted, ◌||◌, ◌&&◌, not, ◌==◌, ◌≢◌, nat_le, slice_index, All, leb-true, leb-false, All-nil, All-push, Seg, Group, end_of, covers, covered, Covers, AreSegs, units_in, begins_run, run_count, IsFit, NoneInRow, AreMaximalRuns, cursor_of, same_not, fit_within, fit_inside, SameBelow, fit_along, row_along, run_count_same, units_none, apart_maximal, all_units, nodes_of, Sets, AllStay, OthersStay, OthersStayBut, settled_by, settled_group, collected_by, collected_group, loaded_by, is_loaded, disabled_by, worker_at, held, is_vacant, live_units, deferred_units, cursor_by, cursor_at, IsOpenGroup, MayDo, MayMiss, MayGrant, MayFree, MayTakeBack, TakesRequests, IsLegal, is_given, IsFreeOfAll, Act, Grant, Free, Unalloc, Miss, Collect, Settle, Load, Unload, Noted, settled_group-push, collected_group-push, is_loaded-push, worker_at-push, cursor_at-push, legal_push, legal_none, settled_le_collected, vacant_free, held_unloaded, vacant_unloaded, given_far, Mirrors, Settles, allocating_of, freeing_of, deferred_of, number_of, is_changed, tree_of, MsState, IsLane, AreOfLanes, settled_of, collected_of, Change, Gained, Given, Tree, Allocating, Freeing, Book, IsKept, origin_in}
 use Rattle.ms_core.proofs.Narrowing.{count_down, range_le}
-use Rattle.ms_core.proofs.Cursors.{cursor_within}
-use Rattle.ms_core.proofs.Mirrored.{after_act, mirrors_first, mirrors_stay, mirrors_miss, mirrors_grant, mirrors_free, mirrors_unalloc, mirrors_collect, mirrors_settle, mirrors_load}
+use Rattle.ms_core.proofs.Mirrored.{mirrors_first, mirrors_quiet, mirrors_grant, mirrors_free, mirrors_unalloc, mirrors_collect, mirrors_settle, mirrors_load}
 use Rattle.ms_core.proofs.Counted.{live_grant, deferred_grant, live_free, deferred_free, live_unalloc, deferred_unalloc, deferred_settle, live_still, deferred_still, live_first, deferred_first}
 
 -- before the first note
@@ -46,6 +18,7 @@ kept_first sets m empty least most shift base none idle collected settled held l
       legal = subst (IsLegal o) (sym none) (legal_none o);
       enabled = ap worker_at none;
       stays = subst (All (λ (note : Noted). note.act ≢ Unload)) (sym none) (All-nil (λ (note : Noted). note.act ≢ Unload));
+      lanes = subst AreOfLanes (sym none) (All-nil (λ (note : Noted). IsLane note.lane));
       collected = collected ∙ ap (collected_group o) (sym none);
       settled = settled ∙ ap (settled_group o) (sym none);
       order = omega arith;
@@ -59,35 +32,12 @@ kept_first sets m empty least most shift base none idle collected settled held l
 
 -- trees that have more room
 pub kept_stay : (sets new : Sets) (m : Book) → IsKept sets m → AllStay sets new → IsKept new m
-kept_stay sets new m k stay =
-    record {
-      least = k.least;
-      most = k.most;
-      shift = k.shift;
-      base = k.base;
-      legal = k.legal;
-      enabled = k.enabled;
-      stays = k.stays;
-      collected = k.collected;
-      settled = k.settled;
-      order = k.order;
-      loaded = k.loaded;
-      mirrors = mirrors_stay (origin_in m) m.notes sets new stay k.mirrors;
-      cursors = k.cursors;
-      held = k.held;
-      live = k.live;
-      deferred = k.deferred;
-    }
+kept_stay sets new m k stay = let same : sets ≡ new = λ i tree u. sym (stay tree u) i in subst (λ s. IsKept s m) same k
 
--- where nothing was given back there is no run of it
-pub given_no_count : (h : List Noted) (group units : ℕ) → ((u : ℕ) → is_given group h u ≡ false) → 0 ≡ run_count (is_given group h) units
-given_no_count h group units none =
-    let begins : (u : ℕ) → begins_run (is_given group h) u ≡ false = λ u. rw (none u) refl in
-    sym (units_none (begins_run (is_given group h)) units begins)
-
-pub given_no_runs : (h : List Noted) (group units : ℕ) (runs : List Seg) → ((u : ℕ) → is_given group h u ≡ false) → runs ≡ [] → AreMaximalRuns (is_given group h) units runs
-given_no_runs h group units runs none empty =
-    subst (AreMaximalRuns (is_given group h) units) (sym empty) (apart_maximal (is_given group h) units [] (omega arith) (λ u l. sym (none u)))
+-- what the fit finds is as long as was asked
+pub found_count : (has : ℕ → Bool) (units ashift at : ℕ) (found : Option Seg) (count : ℕ) → IfSome found (IsFit has units ashift at count) → IfSome found (λ seg. seg.count ≡ count)
+found_count has units ashift at (Some seg) count fit = fit.counts
+found_count has units ashift at None count fit = tt
 
 module _ (sets : Sets) (m : Book) (k : IsKept sets m) where
   takes_requests : m.loaded ≡ true → TakesRequests m.notes
@@ -96,27 +46,37 @@ module _ (sets : Sets) (m : Book) (k : IsKept sets m) where
   pub vacant_same : m.loaded ≡ true → SameBelow m.units (sets 0) (is_vacant (origin_in m) m.notes)
   vacant_same is = k.mirrors.vacant (sym k.loaded ∙ is)
 
-  pub may_miss : m.loaded ≡ true → (count : ℕ) → NoneInRow (sets 0) m.units count → MayMiss (origin_in m) m.notes count
+  may_miss : m.loaded ≡ true → (count : ℕ) → NoneInRow (sets 0) m.units count → MayMiss (origin_in m) m.notes count
   may_miss is count none = record { takes = takes_requests is; none = row_along m.units _ _ (vacant_same is) count none }
 
   -- what `fit` tells of the vacant units
   abbrev pub Fits : ℕ → Seg → Type 0
   Fits count seg = IsFit (sets 0) m.units m.ashift (slice_index m.cursors (cursor_of count)) count seg
 
-  pub may_grant : m.loaded ≡ true → (group count : ℕ) (seg : Seg) → 0 < count → count ≤ 131072 → m.collected < group → group ≤ settled_group (origin_in m) m.notes + 3
-      → Fits count seg → MayGrant (origin_in m) m.notes group seg
-  may_grant is group count seg some most above near fits =
+  may_grant : m.loaded ≡ true → (group count : ℕ) (seg : Seg) → 1 ≤ count → count ≤ 131072 → IsOpenGroup (origin_in m) m.notes group → Fits count seg → MayGrant (origin_in m) m.notes group seg
+  may_grant is group count seg some most open_group fits =
       let vacant = is_vacant (origin_in m) m.notes in
       let there : Fits count seg → IsFit vacant m.units m.ashift (cursor_at m.notes (cursor_of count)) count seg =
-      λ f. subst (λ at. IsFit vacant m.units m.ashift at count seg) (k.cursors is (cursor_of count) (cursor_within count some most)) (fit_along m.units _ _ (vacant_same is) m.ashift _ count seg f) in
+      λ f. subst (λ at. IsFit vacant m.units m.ashift at count seg) (k.cursors is (cursor_of count) (cursor_below count (omega arith) most)) (fit_along m.units _ _ (vacant_same is) m.ashift _ count seg f) in
       let fit = there fits in
       record {
         takes = takes_requests is;
-        open_group = record { above = omega (arith, k.collected); near = near };
+        open_group = open_group;
         within = record { some = omega (arith, fits.counts); within = fit_within _ _ _ _ _ seg fit };
         vacant = λ u c. fit_inside _ _ _ _ _ seg fit u c;
         fit = subst (λ n. IsFit vacant m.units m.ashift (cursor_at m.notes (cursor_of n)) n seg) (sym fits.counts) fit;
       }
+
+  -- what `fit` answers may be granted, or missed
+  pub fitted : m.loaded ≡ true → (group count : ℕ) (found : Option Seg) → 1 ≤ count → count ≤ 131072 → IsOpenGroup (origin_in m) m.notes group
+      → IfSome found (Fits count) → IfNone found (NoneInRow (sets 0) m.units count) → IfSome found (MayGrant (origin_in m) m.notes group) × IfNone found (MayMiss (origin_in m) m.notes count)
+  fitted is group count (Some seg) some most open_group fits none = (may_grant is group count seg some most open_group fits, tt)
+  fitted is group count None some most open_group fits none = (tt, may_miss is count none)
+
+  -- and is free of all
+  pub fitted_free : (group : ℕ) (found : Option Seg) → IfSome found (MayGrant (origin_in m) m.notes group) → IfSome found (λ seg. (u : ℕ) → Covers seg u → IsFreeOfAll (origin_in m) m.notes u)
+  fitted_free group (Some seg) may = λ u c. vacant_free (origin_in m) m.notes u k.legal (may.vacant u c)
+  fitted_free group None may = tt
 
   -- nothing was touched before the first load
   pub vacant_held : m.loaded ≡ false → (t u : ℕ) → is_vacant (origin_in m) m.notes u ≡ not (held (origin_in m) m.notes t u)
@@ -125,278 +85,214 @@ module _ (sets : Sets) (m : Book) (k : IsKept sets m) where
       let is : is_loaded m.notes ≡ false = sym k.loaded ∙ idle in
       vacant_unloaded o m.notes u k.legal is k.stays ∙ ap not (sym (held_unloaded o m.notes t u k.legal is k.stays))
 
-  pub may_free : m.loaded ≡ true → (group : ℕ) (seg : Seg) → m.collected < group → group ≤ settled_group (origin_in m) m.notes + 3 → IsWithin m.units seg
-      → ((u : ℕ) → Covers seg u → IsGrantedBy group (last_act (origin_in m) m.notes u)) → MayFree (origin_in m) m.notes group seg
-  may_free is group seg above near within live =
-      record { loaded = sym k.loaded ∙ is; open_group = record { above = omega (arith, k.collected); near = near }; within = within; live = live }
+  -- what the next group changed: its tree has it, and where there is none nothing was changed
+  next_in : (change : Change) (group : Group) (tree : Tree) → group.0 ≡ collected_group (origin_in m) m.notes + 1 → tree_of change group (settled_group (origin_in m) m.notes) ≡ Some tree
+      → (u : ℕ) → sets (number_of tree) u ≡ is_changed change group.0 m.notes u
+  next_in Gained group tree next is u =
+      let same : Allocating group ≡ tree = cc in
+      ap (λ t. sets (number_of t) u) (sym same) ∙ k.mirrors.gained group.0 u (omega arith) (omega arith)
+  next_in Given group tree next is u = by_near (nat_le group.0 (settled_group (origin_in m) m.notes + 3)) refl is where
+    by_near : (b : Bool) → nat_le group.0 (settled_group (origin_in m) m.notes + 3) ≡ b → cond b (Some (Freeing group)) None ≡ Some tree → sets (number_of tree) u ≡ is_given group.0 m.notes u
+    by_near true near e =
+        let same : Freeing group ≡ tree = cc in
+        let low : group.0 ≤ settled_group (origin_in m) m.notes + 3 = leb-true group.0 (settled_group (origin_in m) m.notes + 3) near in
+        ap (λ t. sets (number_of t) u) (sym same) ∙ k.mirrors.given group.0 u (omega (arith, k.order, k.settled, k.collected)) (omega arith)
+    by_near false far e = absurd (cc)
 
-  pub may_take_back : m.loaded ≡ true → (lane group : ℕ) (seg : Seg) → m.collected < group → group ≤ settled_group (origin_in m) m.notes + 3 → IsWithin m.units seg
-      → ((u : ℕ) → Covers seg u → last_act (origin_in m) m.notes u ≡ granted (Some lane) group) → MayTakeBack (origin_in m) m.notes lane group seg
-  may_take_back is lane group seg above near within own =
-      record { loaded = sym k.loaded ∙ is; open_group = record { above = omega (arith, k.collected); near = near }; within = within; own = own }
+  pub next_count : (change : Change) (group : Group) (tree : Tree) → group.0 ≡ collected_group (origin_in m) m.notes + 1 → tree_of change group (settled_group (origin_in m) m.notes) ≡ Some tree
+      → nodes_of (sets (number_of tree)) ≡ run_count (is_changed change group.0 m.notes) m.units
+  next_count change group tree next is =
+      count_down (sets (number_of tree)) m.units all_units (range_le m.units k.most) (k.mirrors.within (number_of tree))
+      ∙ run_count_same (sets (number_of tree)) (is_changed change group.0 m.notes) m.units (next_in change group tree next is)
 
-  -- the runs of the next group
+  pub next_runs : (change : Change) (group : Group) (tree : Tree) (runs : List Seg) → group.0 ≡ collected_group (origin_in m) m.notes + 1 → tree_of change group (settled_group (origin_in m) m.notes) ≡ Some tree
+      → AreMaximalRuns (sets (number_of tree)) m.units runs → AreMaximalRuns (is_changed change group.0 m.notes) m.units runs
+  next_runs change group tree runs next is all =
+      let same : sets (number_of tree) ≡ is_changed change group.0 m.notes = λ i u. next_in change group tree next is u i in
+      subst (λ p. AreMaximalRuns p m.units runs) same all
 
-  tree_count : (tree : ℕ) (set : ℕ → Bool) → ((u : ℕ) → sets tree u ≡ set u) → nodes_of (sets tree) ≡ run_count set m.units
-  tree_count tree set same =
-      count_down (sets tree) m.units all_units (range_le m.units k.most) (k.mirrors.within tree) ∙ run_count_same (sets tree) set m.units same
+  pub next_none : (change : Change) (group : Group) → tree_of change group (settled_group (origin_in m) m.notes) ≡ None → (u : ℕ) → is_changed change group.0 m.notes u ≡ false
+  next_none Gained group is u = absurd (cc)
+  next_none Given group is u = by_near (nat_le group.0 (settled_group (origin_in m) m.notes + 3)) refl is where
+    by_near : (b : Bool) → nat_le group.0 (settled_group (origin_in m) m.notes + 3) ≡ b → ◌≡◌ {A = Option Tree} (cond b (Some (Freeing group)) None) None → is_given group.0 m.notes u ≡ false
+    by_near true near e = absurd (cc)
+    by_near false far e = given_far (origin_in m) m.notes group.0 u k.legal (leb-false _ _ far)
 
-  next_gained : (group : ℕ) → group ≡ m.collected + 1 → (u : ℕ) → sets (allocating_of group) u ≡ is_gained group m.notes u
-  next_gained group next u = k.mirrors.gained group u (omega (arith, k.collected)) (omega (arith, k.collected))
+-- the same of a metaslab as contracts see it
+abbrev pub NextCount : Sets → Change → Group → Tree → MsState → Type 0
+NextCount sets change group tree s =
+    group.0 ≡ collected_of s + 1 → tree_of change group (settled_of s) ≡ Some tree → nodes_of (sets (number_of tree)) ≡ run_count (is_changed change group.0 s.notes) s.units
 
-  next_given : (group : ℕ) → group ≡ m.collected + 1 → group ≤ settled_group (origin_in m) m.notes + 3 → (u : ℕ) → sets (freeing_of group) u ≡ is_given group m.notes u
-  next_given group next near u = k.mirrors.given group u (omega (arith, k.order, k.settled)) (omega arith)
+abbrev pub NextRuns : Change → Group → Tree → List Seg → MsState → Type 0
+NextRuns change group tree runs s = group.0 ≡ collected_of s + 1 → tree_of change group (settled_of s) ≡ Some tree → AreMaximalRuns (is_changed change group.0 s.notes) s.units runs
 
-  pub gained_count : (group tree : ℕ) → tree ≡ allocating_of group → group ≡ m.collected + 1 → nodes_of (sets tree) ≡ run_count (is_gained group m.notes) m.units
-  gained_count group tree e next = tree_count tree (is_gained group m.notes) (λ u. ap (λ t. sets t u) e ∙ next_gained group next u)
+abbrev pub NextNone : Change → Group → MsState → Type 0
+NextNone change group s = tree_of change group (settled_of s) ≡ None → (u : ℕ) → is_changed change group.0 s.notes u ≡ false
 
-  pub given_count : (group tree : ℕ) → tree ≡ freeing_of group → group ≡ m.collected + 1 → group ≤ settled_group (origin_in m) m.notes + 3 → nodes_of (sets tree) ≡ run_count (is_given group m.notes) m.units
-  given_count group tree e next near = tree_count tree (is_given group m.notes) (λ u. ap (λ t. sets t u) e ∙ next_given group next near u)
+-- a set of no units has no run
+pub none_count : (set : ℕ → Bool) (units : ℕ) → ((u : ℕ) → set u ≡ false) → 0 ≡ run_count set units
+none_count set units none = sym (units_none (begins_run set) units (λ u. rw (none u) refl))
 
-  pub given_none : (group : ℕ) → settled_group (origin_in m) m.notes + 3 < group → (u : ℕ) → is_given group m.notes u ≡ false
-  given_none group far u = given_far (origin_in m) m.notes group u k.legal far
-
-  runs_along : (p q : ℕ → Bool) (runs : List Seg) → ((u : ℕ) → p u ≡ q u) → AreMaximalRuns p m.units runs → AreMaximalRuns q m.units runs
-  runs_along p q runs same all =
-      record { rising = all.rising; maximal = λ i d l. maximal_along m.units p q (λ u h. same u) _ (all.maximal i d l); whole = λ u h. all.whole u h ∙ same u }
-
-  pub gained_runs : (group tree : ℕ) (runs : List Seg) → tree ≡ allocating_of group → group ≡ m.collected + 1 → AreMaximalRuns (sets tree) m.units runs → AreMaximalRuns (is_gained group m.notes) m.units runs
-  gained_runs group tree runs e next all = runs_along (sets tree) (is_gained group m.notes) runs (λ u. ap (λ t. sets t u) e ∙ next_gained group next u) all
-
-  pub given_runs : (group tree : ℕ) (runs : List Seg) → tree ≡ freeing_of group → group ≡ m.collected + 1 → group ≤ settled_group (origin_in m) m.notes + 3
-      → AreMaximalRuns (sets tree) m.units runs → AreMaximalRuns (is_given group m.notes) m.units runs
-  given_runs group tree runs e next near all = runs_along (sets tree) (is_given group m.notes) runs (λ u. ap (λ t. sets t u) e ∙ next_given group next near u) all
+pub none_runs : (set : ℕ → Bool) (units : ℕ) (runs : List Seg) → runs ≡ [] → ((u : ℕ) → set u ≡ false) → AreMaximalRuns set units runs
+none_runs set units runs empty none = subst (AreMaximalRuns set units) (sym empty) (apart_maximal set units [] (omega arith) (λ u l. sym (none u)))
 
 -- another list of the same notes
 pub kept_notes : (sets : Sets) (m : Book) (notes : List Noted) → notes ≡ m.notes → IsKept sets m → IsKept sets (record m { notes = notes })
 kept_notes sets m notes e k = subst (λ h. IsKept sets (record m { notes = h })) (sym e) k
 
-module _ (sets new : Sets) (m : Book) (k : IsKept sets m) (notes : List Noted) (lane : ℕ) where
-  module _ (act : Act) (e : notes ≡ after_act m.notes lane act) (may : MayDo (origin_in m) m.notes lane act) (free : disabled_by None act ≡ None) (kept : act ≢ Unload) where
-    legal_after : IsLegal (origin_in m) notes
-    legal_after = subst (IsLegal (origin_in m)) (sym e) (legal_push (origin_in m) m.notes (record { lane = lane; act = act }) k.legal may)
+-- what an act of a lane leaves: it may follow the journal, and the trees, the cursors and the totals say what the longer
+-- journal says
+pub record Leaves (new : Sets) (m : Book) (lane : ℕ) (act : Act) (ends : List ℕ) (out back : ℕ) : Type 0 where
+  is_lane : IsLane lane
+  may : MayDo (origin_in m) m.notes lane act
+  enabled : disabled_by None act ≡ None
+  stays : act ≢ Unload
+  mirrors : Mirrors (origin_in m) (noted m.notes lane act) new
+  cursors : loaded_by m.loaded act ≡ true → (number : ℕ) → number < 18 → slice_index ends number ≡ cursor_by number (cursor_at m.notes number) act
+  live : out ≡ live_units (origin_in m) (noted m.notes lane act)
+  deferred : back ≡ deferred_units (origin_in m) (noted m.notes lane act)
 
-    enabled_after : worker_at notes ≡ None
-    enabled_after = ap worker_at e ∙ worker_at-push m.notes (record { lane = lane; act = act }) ∙ ap (λ w. disabled_by w act) k.enabled ∙ free
+-- and so all that is kept stays true
+pub kept : (sets new : Sets) (m : Book) → IsKept sets m → (notes : List Noted) (lane : ℕ) (act : Act) (cursors : List ℕ) (live deferred : ℕ) → notes ≡ noted m.notes lane act → Leaves new m lane act cursors live deferred
+    → IsKept new (record m { notes = notes; loaded = loaded_by m.loaded act; cursors = cursors; collected = collected_by m.collected act; settled = settled_by m.settled act; live = live; deferred = deferred })
+kept sets new m k notes lane act cursors live deferred e act_leaves =
+    let o = origin_in m in
+    let note : Noted = record { lane = lane; act = act } in
+    let legal : IsLegal o (noted m.notes lane act) = legal_push o m.notes note k.legal act_leaves.may in
+    let collected : collected_by m.collected act ≡ collected_group o (noted m.notes lane act) = ap (λ n. collected_by n act) k.collected ∙ sym (collected_group-push o m.notes note) in
+    let settled : settled_by m.settled act ≡ settled_group o (noted m.notes lane act) = ap (λ n. settled_by n act) k.settled ∙ sym (settled_group-push o m.notes note) in
+    subst
+    (λ (h : List Noted). IsKept new (record m { notes = h; loaded = loaded_by m.loaded act; cursors = cursors; collected = collected_by m.collected act; settled = settled_by m.settled act; live = live; deferred = deferred }))
+    (sym e)
+    (record {
+      least = k.least;
+      most = k.most;
+      shift = k.shift;
+      base = k.base;
+      legal = legal;
+      enabled = worker_at-push m.notes note ∙ (ap (λ w. disabled_by w act) k.enabled ∙ act_leaves.enabled);
+      stays = All-push (λ (n : Noted). n.act ≢ Unload) m.notes note k.stays act_leaves.stays;
+      lanes = All-push (λ (n : Noted). IsLane n.lane) m.notes note k.lanes act_leaves.is_lane;
+      collected = collected;
+      settled = settled;
+      order = omega (arith, settled_le_collected o (noted m.notes lane act) legal);
+      loaded = ap (λ b. loaded_by b act) k.loaded ∙ sym (is_loaded-push m.notes note);
+      mirrors = act_leaves.mirrors;
+      cursors = λ h n l. act_leaves.cursors h n l ∙ sym (cursor_at-push m.notes note n);
+      held = k.held;
+      live = act_leaves.live;
+      deferred = act_leaves.deferred;
+    })
 
-    stays_after : All (λ (note : Noted). note.act ≢ Unload) notes
-    stays_after = subst (All (λ (note : Noted). note.act ≢ Unload)) (sym e) (All-push (λ (note : Noted). note.act ≢ Unload) m.notes (record { lane = lane; act = act }) k.stays kept)
-
-    settled_after : settled_group (origin_in m) notes ≡ settled_by (settled_group (origin_in m) m.notes) act
-    settled_after = ap (settled_group (origin_in m)) e ∙ settled_group-push (origin_in m) m.notes (record { lane = lane; act = act })
-
-    collected_after : collected_group (origin_in m) notes ≡ collected_by (collected_group (origin_in m) m.notes) act
-    collected_after = ap (collected_group (origin_in m)) e ∙ collected_group-push (origin_in m) m.notes (record { lane = lane; act = act })
-
-    loaded_after : is_loaded notes ≡ loaded_by (is_loaded m.notes) act
-    loaded_after = ap is_loaded e ∙ is_loaded-push m.notes (record { lane = lane; act = act })
-
-    cursor_after : (number : ℕ) → cursor_at notes number ≡ cursor_by number (cursor_at m.notes number) act
-    cursor_after number = ap (λ (l : List Noted). cursor_at l number) e ∙ cursor_at-push m.notes (record { lane = lane; act = act }) number
-
-    mirrors_after : Mirrors (origin_in m) (after_act m.notes lane act) new → Mirrors (origin_in m) notes new
-    mirrors_after f = subst (λ h. Mirrors (origin_in m) h new) (sym e) f
-
-    live_after : (n : ℕ) → n ≡ live_units (origin_in m) (after_act m.notes lane act) → n ≡ live_units (origin_in m) notes
-    live_after n f = f ∙ ap (live_units (origin_in m)) (sym e)
-
-    deferred_after : (n : ℕ) → n ≡ deferred_units (origin_in m) (after_act m.notes lane act) → n ≡ deferred_units (origin_in m) notes
-    deferred_after n f = f ∙ ap (deferred_units (origin_in m)) (sym e)
-
-  pub kept_miss : (count : ℕ) → notes ≡ after_act m.notes lane (Miss count) → MayMiss (origin_in m) m.notes count → AllStay sets new → IsKept new (record m { notes = notes })
-  kept_miss count e may stay =
+-- each act: what it does to the trees, the cursors and the totals
+module _ (sets new : Sets) (m : Book) (k : IsKept sets m) (lane : ℕ) (by : IsLane lane) where
+  pub misses : (count : ℕ) → MayMiss (origin_in m) m.notes count → Leaves sets m lane (Miss count) m.cursors m.live m.deferred
+  misses count may =
       let act : Act = Miss count in
-      let o = origin_in m in
       record {
-        least = k.least;
-        most = k.most;
-        shift = k.shift;
-        base = k.base;
-        legal = legal_after act e may refl (λ f. cc);
-        enabled = enabled_after act e may refl (λ f. cc);
-        stays = stays_after act e may refl (λ f. cc);
-        collected = k.collected ∙ sym (collected_after act e may refl (λ f. cc));
-        settled = k.settled ∙ sym (settled_after act e may refl (λ f. cc));
-        order = k.order;
-        loaded = k.loaded ∙ sym (loaded_after act e may refl (λ f. cc));
-        mirrors = mirrors_after act e may refl (λ f. cc) (mirrors_miss o m.notes sets k.legal k.mirrors new lane count stay);
-        cursors = λ h n l. k.cursors h n l ∙ sym (cursor_after act e may refl (λ f. cc) n);
-        held = k.held;
-        live = live_after act e may refl (λ f. cc) m.live (k.live ∙ sym (live_still o m.notes k.legal lane act refl));
-        deferred = deferred_after act e may refl (λ f. cc) m.deferred (k.deferred ∙ sym (deferred_still o m.notes k.legal lane act refl refl));
+        is_lane = by;
+        may = may;
+        enabled = refl;
+        stays = λ f. cc;
+        mirrors = mirrors_quiet (origin_in m) m.notes sets k.legal k.mirrors lane act refl refl refl (λ u. refl) (λ t x. x);
+        cursors = k.cursors;
+        live = k.live ∙ sym (live_still (origin_in m) m.notes k.legal lane act refl);
+        deferred = k.deferred ∙ sym (deferred_still (origin_in m) m.notes k.legal lane act refl refl);
       }
 
-  pub kept_grant : (group : Group) (seg : Seg) (cursors : List ℕ) → notes ≡ after_act m.notes lane (Grant group seg) → MayGrant (origin_in m) m.notes group.0 seg
+  pub grants : (group : Group) (seg : Seg) (cursors : List ℕ) → MayGrant (origin_in m) m.notes group.0 seg
       → ((u : ℕ) → new 0 u ≡ (not (covers seg u) && sets 0 u))
       → ((u : ℕ) → new (allocating_of group.0) u ≡ (covers seg u || sets (allocating_of group.0) u))
       → OthersStayBut sets new 0 (allocating_of group.0)
       → ((number : ℕ) → number < 18 → slice_index cursors number ≡ cond (cursor_of seg.count == number) (end_of seg) (slice_index m.cursors number))
-      → IsKept new (record m { notes = notes; cursors = cursors; live = m.live + seg.count })
-  kept_grant group seg cursors e may left gained others moved =
-      let act : Act = Grant group seg in
-      let o = origin_in m in
-      record {
-        least = k.least;
-        most = k.most;
-        shift = k.shift;
-        base = k.base;
-        legal = legal_after act e may refl (λ f. cc);
-        enabled = enabled_after act e may refl (λ f. cc);
-        stays = stays_after act e may refl (λ f. cc);
-        collected = k.collected ∙ sym (collected_after act e may refl (λ f. cc));
-        settled = k.settled ∙ sym (settled_after act e may refl (λ f. cc));
-        order = k.order;
-        loaded = k.loaded ∙ sym (loaded_after act e may refl (λ f. cc));
-        mirrors = mirrors_after act e may refl (λ f. cc) (mirrors_grant o m.notes sets k.legal k.mirrors new lane group seg may left gained others);
-        cursors = λ h n l. moved n l ∙ (ap (λ c. cond (cursor_of seg.count == n) (end_of seg) c) (k.cursors h n l) ∙ sym (cursor_after act e may refl (λ f. cc) n));
-        held = k.held;
-        live = live_after act e may refl (λ f. cc) (m.live + seg.count) (omega (arith, k.live, live_grant o m.notes k.legal lane group seg may));
-        deferred = deferred_after act e may refl (λ f. cc) m.deferred (k.deferred ∙ sym (deferred_grant o m.notes k.legal lane group seg may));
-      }
+      → Leaves new m lane (Grant group seg) cursors (m.live + seg.count) m.deferred
+  grants group seg cursors may left gained others moved = record {
+    is_lane = by;
+    may = may;
+    enabled = refl;
+    stays = λ f. cc;
+    mirrors = mirrors_grant (origin_in m) m.notes sets k.legal k.mirrors new lane group seg may left gained others;
+    cursors = λ h n l. moved n l ∙ ap (λ c. cond (cursor_of seg.count == n) (end_of seg) c) (k.cursors h n l);
+    live = omega (arith, k.live, live_grant (origin_in m) m.notes k.legal lane group seg may);
+    deferred = omega (arith, k.deferred, deferred_grant (origin_in m) m.notes k.legal lane group seg may);
+  }
 
-  pub kept_free : (group : Group) (seg : Seg) → notes ≡ after_act m.notes lane (Free group seg) → MayFree (origin_in m) m.notes group.0 seg
+  pub frees : (group : Group) (seg : Seg) → MayFree (origin_in m) m.notes group.0 seg
       → ((u : ℕ) → new (freeing_of group.0) u ≡ (covers seg u || sets (freeing_of group.0) u))
-      → OthersStay sets new (freeing_of group.0)
-      → IsKept new (record m { notes = notes; live = m.live - seg.count; deferred = m.deferred + seg.count })
-  kept_free group seg e may given others =
-      let act : Act = Free group seg in
-      let o = origin_in m in
-      record {
-        least = k.least;
-        most = k.most;
-        shift = k.shift;
-        base = k.base;
-        legal = legal_after act e may refl (λ f. cc);
-        enabled = enabled_after act e may refl (λ f. cc);
-        stays = stays_after act e may refl (λ f. cc);
-        collected = k.collected ∙ sym (collected_after act e may refl (λ f. cc));
-        settled = k.settled ∙ sym (settled_after act e may refl (λ f. cc));
-        order = k.order;
-        loaded = k.loaded ∙ sym (loaded_after act e may refl (λ f. cc));
-        mirrors = mirrors_after act e may refl (λ f. cc) (mirrors_free o m.notes sets k.legal k.mirrors new lane group seg may given others);
-        cursors = λ h n l. k.cursors h n l ∙ sym (cursor_after act e may refl (λ f. cc) n);
-        held = k.held;
-        live = live_after act e may refl (λ f. cc) (m.live - seg.count) (omega (arith, k.live, live_free o m.notes k.legal lane group seg may));
-        deferred = deferred_after act e may refl (λ f. cc) (m.deferred + seg.count) (omega (arith, k.deferred, deferred_free o m.notes k.legal lane group seg may));
-      }
+      → OthersStay sets new (freeing_of group.0) → Leaves new m lane (Free group seg) m.cursors (m.live - seg.count) (m.deferred + seg.count)
+  frees group seg may given others = record {
+    is_lane = by;
+    may = may;
+    enabled = refl;
+    stays = λ f. cc;
+    mirrors = mirrors_free (origin_in m) m.notes sets k.legal k.mirrors new lane group seg may given others;
+    cursors = k.cursors;
+    live = omega (arith, k.live, live_free (origin_in m) m.notes k.legal lane group seg may);
+    deferred = omega (arith, k.deferred, deferred_free (origin_in m) m.notes k.legal lane group seg may);
+  }
 
-  pub kept_unalloc : (group : Group) (seg : Seg) → notes ≡ after_act m.notes lane (Unalloc group seg) → MayTakeBack (origin_in m) m.notes lane group.0 seg
+  pub takes_back : (group : Group) (seg : Seg) → MayTakeBack (origin_in m) m.notes lane group.0 seg
       → ((u : ℕ) → new 0 u ≡ (covers seg u || sets 0 u))
       → ((u : ℕ) → new (allocating_of group.0) u ≡ (not (covers seg u) && sets (allocating_of group.0) u))
-      → OthersStayBut sets new 0 (allocating_of group.0)
-      → IsKept new (record m { notes = notes; live = m.live - seg.count })
-  kept_unalloc group seg e may back left others =
-      let act : Act = Unalloc group seg in
-      let o = origin_in m in
-      record {
-        least = k.least;
-        most = k.most;
-        shift = k.shift;
-        base = k.base;
-        legal = legal_after act e may refl (λ f. cc);
-        enabled = enabled_after act e may refl (λ f. cc);
-        stays = stays_after act e may refl (λ f. cc);
-        collected = k.collected ∙ sym (collected_after act e may refl (λ f. cc));
-        settled = k.settled ∙ sym (settled_after act e may refl (λ f. cc));
-        order = k.order;
-        loaded = k.loaded ∙ sym (loaded_after act e may refl (λ f. cc));
-        mirrors = mirrors_after act e may refl (λ f. cc) (mirrors_unalloc o m.notes sets k.legal k.mirrors new lane group seg may back left others);
-        cursors = λ h n l. k.cursors h n l ∙ sym (cursor_after act e may refl (λ f. cc) n);
-        held = k.held;
-        live = live_after act e may refl (λ f. cc) (m.live - seg.count) (omega (arith, k.live, live_unalloc o m.notes k.legal lane group seg may));
-        deferred = deferred_after act e may refl (λ f. cc) m.deferred (k.deferred ∙ sym (deferred_unalloc o m.notes k.legal lane group seg may));
-      }
+      → OthersStayBut sets new 0 (allocating_of group.0) → Leaves new m lane (Unalloc group seg) m.cursors (m.live - seg.count) m.deferred
+  takes_back group seg may back left others = record {
+    is_lane = by;
+    may = may;
+    enabled = refl;
+    stays = λ f. cc;
+    mirrors = mirrors_unalloc (origin_in m) m.notes sets k.legal k.mirrors new lane group seg may back left others;
+    cursors = k.cursors;
+    live = omega (arith, k.live, live_unalloc (origin_in m) m.notes k.legal lane group seg may);
+    deferred = omega (arith, k.deferred, deferred_unalloc (origin_in m) m.notes k.legal lane group seg may);
+  }
 
-  pub kept_collect : (group : Group) → notes ≡ after_act m.notes lane (Collect group) → group.0 ≡ m.collected + 1
-      → ((u : ℕ) → new (allocating_of group.0) u ≡ false) → OthersStay sets new (allocating_of group.0)
-      → IsKept new (record m { notes = notes; collected = group.0 })
-  kept_collect group e next empty others =
+  pub collects : (group : Group) → group.0 ≡ m.collected + 1 → ((u : ℕ) → new (allocating_of group.0) u ≡ false) → OthersStay sets new (allocating_of group.0)
+      → Leaves new m lane (Collect group) m.cursors m.live m.deferred
+  collects group next empty others =
       let act : Act = Collect group in
-      let o = origin_in m in
-      let may : MayDo o m.notes lane act = omega (arith, k.collected) in
+      let may : MayDo (origin_in m) m.notes lane act = omega (arith, k.collected) in
       record {
-        least = k.least;
-        most = k.most;
-        shift = k.shift;
-        base = k.base;
-        legal = legal_after act e may refl (λ f. cc);
-        enabled = enabled_after act e may refl (λ f. cc);
-        stays = stays_after act e may refl (λ f. cc);
-        collected = sym (collected_after act e may refl (λ f. cc));
-        settled = k.settled ∙ sym (settled_after act e may refl (λ f. cc));
-        order = omega (arith, k.order);
-        loaded = k.loaded ∙ sym (loaded_after act e may refl (λ f. cc));
-        mirrors = mirrors_after act e may refl (λ f. cc) (mirrors_collect o m.notes sets k.legal k.mirrors new lane group may empty others);
-        cursors = λ h n l. k.cursors h n l ∙ sym (cursor_after act e may refl (λ f. cc) n);
-        held = k.held;
-        live = live_after act e may refl (λ f. cc) m.live (k.live ∙ sym (live_still o m.notes k.legal lane act refl));
-        deferred = deferred_after act e may refl (λ f. cc) m.deferred (k.deferred ∙ sym (deferred_still o m.notes k.legal lane act refl refl));
+        is_lane = by;
+        may = may;
+        enabled = refl;
+        stays = λ f. cc;
+        mirrors = mirrors_collect (origin_in m) m.notes sets k.legal k.mirrors new lane group may empty others;
+        cursors = k.cursors;
+        live = k.live ∙ sym (live_still (origin_in m) m.notes k.legal lane act refl);
+        deferred = k.deferred ∙ sym (deferred_still (origin_in m) m.notes k.legal lane act refl refl);
       }
 
-  pub kept_settle : (group : Group) (gone : ℕ) → notes ≡ after_act m.notes lane (Settle group) → group.0 ≡ m.settled + 1 → group.0 ≤ m.collected
-      → Settles m.loaded sets new group.0 → gone ≡ units_in (sets (deferred_of group.0)) m.units
-      → IsKept new (record m { notes = notes; settled = group.0; deferred = m.deferred - gone })
-  kept_settle group gone e next closed moves same =
+  pub settles : (group : Group) (gone : ℕ) → group.0 ≡ m.settled + 1 → group.0 ≤ m.collected → Settles m.loaded sets new group.0 → gone ≡ units_in (sets (deferred_of group.0)) m.units
+      → Leaves new m lane (Settle group) m.cursors m.live (m.deferred - gone)
+  settles group gone next closed moves same =
       let act : Act = Settle group in
-      let o = origin_in m in
-      let may : MayDo o m.notes lane act = (omega (arith, k.settled), omega (arith, k.collected)) in
+      let may : MayDo (origin_in m) m.notes lane act = (omega (arith, k.settled), omega (arith, k.collected)) in
       record {
-        least = k.least;
-        most = k.most;
-        shift = k.shift;
-        base = k.base;
-        legal = legal_after act e may refl (λ f. cc);
-        enabled = enabled_after act e may refl (λ f. cc);
-        stays = stays_after act e may refl (λ f. cc);
-        collected = k.collected ∙ sym (collected_after act e may refl (λ f. cc));
-        settled = sym (settled_after act e may refl (λ f. cc));
-        order = closed;
-        loaded = k.loaded ∙ sym (loaded_after act e may refl (λ f. cc));
-        mirrors =
-            mirrors_after act e may refl (λ f. cc)
-            (mirrors_settle o m.notes sets k.legal k.mirrors new lane group may.0 may.1 (subst (λ b. Settles b sets new group.0) k.loaded moves));
-        cursors = λ h n l. k.cursors h n l ∙ sym (cursor_after act e may refl (λ f. cc) n);
-        held = k.held;
-        live = live_after act e may refl (λ f. cc) m.live (k.live ∙ sym (live_still o m.notes k.legal lane act refl));
-        deferred = deferred_after act e may refl (λ f. cc) (m.deferred - gone) (omega (arith, k.deferred, deferred_settle o m.notes k.legal sets k.mirrors lane group may.0));
+        is_lane = by;
+        may = may;
+        enabled = refl;
+        stays = λ f. cc;
+        mirrors = mirrors_settle (origin_in m) m.notes sets k.legal k.mirrors new lane group may.0 may.1 (subst (λ b. Settles b sets new group.0) k.loaded moves);
+        cursors = k.cursors;
+        live = k.live ∙ sym (live_still (origin_in m) m.notes k.legal lane act refl);
+        deferred = omega (arith, k.deferred, deferred_settle (origin_in m) m.notes k.legal sets k.mirrors lane group may.0);
       }
 
-  pub kept_load : (cursors : List ℕ) (given : List Seg) → notes ≡ after_act m.notes lane Load → m.loaded ≡ false
+  pub loads : (cursors : List ℕ) (given : List Seg) → m.loaded ≡ false
       → ((u : ℕ) → u < m.units → new 0 u ≡ not (covered given u)) → ((u : ℕ) → m.units ≤ u → new 0 u ≡ false) → OthersStay sets new 0
       → ((u : ℕ) → u < m.units → covered given u ≡ held (origin_in m) m.notes (settled_group (origin_in m) m.notes) u)
-      → ((number : ℕ) → number < 18 → slice_index cursors number ≡ 0)
-      → IsKept new (record m { notes = notes; cursors = cursors; loaded = true })
-  kept_load cursors given e idle gaps above others holds start =
-      let act : Act = Load in
-      let o = origin_in m in
-      let may : MayDo o m.notes lane act = sym k.loaded ∙ idle in
+      → ((number : ℕ) → number < 18 → slice_index cursors number ≡ 0) → Leaves new m lane Load cursors m.live m.deferred
+  loads cursors given idle gaps above others holds start =
+      let may : MayDo (origin_in m) m.notes lane Load = sym k.loaded ∙ idle in
       record {
-        least = k.least;
-        most = k.most;
-        shift = k.shift;
-        base = k.base;
-        legal = legal_after act e may refl (λ f. cc);
-        enabled = enabled_after act e may refl (λ f. cc);
-        stays = stays_after act e may refl (λ f. cc);
-        collected = k.collected ∙ sym (collected_after act e may refl (λ f. cc));
-        settled = k.settled ∙ sym (settled_after act e may refl (λ f. cc));
-        order = k.order;
-        loaded = sym (loaded_after act e may refl (λ f. cc));
+        is_lane = by;
+        may = may;
+        enabled = refl;
+        stays = λ f. cc;
         mirrors =
-            mirrors_after act e may refl (λ f. cc)
-            (mirrors_load o m.notes sets k.legal k.mirrors new lane may
-            (λ u l. gaps u l ∙ ap not (holds u l) ∙ sym (vacant_held sets m k idle (settled_group o m.notes) u)) above others);
-        cursors = λ h n l. start n l ∙ sym (cursor_after act e may refl (λ f. cc) n);
-        held = k.held;
-        live = live_after act e may refl (λ f. cc) m.live (k.live ∙ sym (live_still o m.notes k.legal lane act refl));
-        deferred = deferred_after act e may refl (λ f. cc) m.deferred (k.deferred ∙ sym (deferred_still o m.notes k.legal lane act refl refl));
+            mirrors_load (origin_in m) m.notes sets k.legal k.mirrors new lane may
+            (λ u l. gaps u l ∙ ap not (holds u l) ∙ sym (vacant_held sets m k idle (settled_group (origin_in m) m.notes) u)) above others;
+        cursors = λ h n l. start n l;
+        live = k.live ∙ sym (live_still (origin_in m) m.notes k.legal lane Load refl);
+        deferred = k.deferred ∙ sym (deferred_still (origin_in m) m.notes k.legal lane Load refl refl);
       }
-
--- before the first note each group holds the base
-
-base_is : (b : Bool) (opened : ℕ) → b ≡ is_grant (cond b (granted None opened) untouched)
-base_is true opened = refl
-base_is false opened = refl
-
-pub held_none : (o : Origin) (h : List Noted) (t u : ℕ) → h ≡ [] → o.base u ≡ held o h t u
-held_none o h t u e = subst (λ l. o.base u ≡ held o l t u) (sym e) (base_is (o.base u) o.opened)

@@ -1,10 +1,9 @@
-pub mod Cursors
+pub mod Words
 pub mod Mirroring
 pub mod Mirrored
 pub mod Barring
 pub mod Counted
 pub mod Narrowing
-pub mod Gapping
 pub mod WalkedRuns
 pub mod Lookback
 pub mod Keeping

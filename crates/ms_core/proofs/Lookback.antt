@@ -1,22 +1,7 @@
 -- What a look through the segment, the trees or the notes finds.
-use Rattle.std.proofs.Common.{◌≡◌, ℕ, zero, suc, ◌+◌, ◌-◌, ◌≤◌, ◌<◌, Bool, true, false, cond, Option, Some, None, List, [], ◌∷◌, ◌++◌, length, get_or, take, drop, refl, sym, ◌∙◌, ap, subst, arith, ◌⊎◌, inl, inr, IfSome, IfNone}
-use Rattle.std.specs.Prelude.{◌||◌, ◌%◌}
-use Rattle.std.proofs.lemmas.List.{take-append-drop, get_or-take, length-take}
-use Rattle.zms_units.specs.declared.segments.Seg.{Seg}
-use Rattle.zms_units.specs.Segments.{covers, Covers}
-use Rattle.zms_units.proofs.UnitTests.{le_or, or_cases, or_false, or_false_right}
-use Rattle.seg_trees.specs.Sets.{Sets}
-use Rattle.ms_model.specs.Origin.{Origin}
-use Rattle.ms_model.specs.Units.{LastAct, granted, untouched, act_on, last_act, settled_group, collected_group, is_loaded}
-use Rattle.ms_model.specs.Legal.{MayDo, IsLegal, IsWithin, IsGrantedBy}
-use Rattle.ms_model.specs.declared.notes.Act.{Act}
-use Rattle.ms_model.specs.declared.notes.Act.TheVariants.{Grant, Free, Unalloc, Settle}
-use Rattle.ms_model.specs.declared.notes.Noted.{Noted}
-use Rattle.ms_model.proofs.Histories.{last_act-push, settled_group-push, legal_before, legal_last, by_legal}
-use Rattle.ms_model.proofs.Held.{settled_by_grows}
-use Rattle.ms_core.specs.Asked.{Finds, in_any, IsLowestLacking, IsSettleBefore}
-use Rattle.ms_core.specs.Mirrors.{Mirrors, IsBarred, by_vacant, by_given, by_gained, allocating_of}
-use Rattle.ms_core.proofs.Barring.{barred, live_of_trees}
+use Rattle.std.proofs.Common.{◌≡◌, ℕ, zero, suc, ◌+◌, ◌-◌, ◌≤◌, ◌<◌, Bool, true, false, Option, Some, None, List, [], ◌∷◌, ◌++◌, length, get_or, take, drop, refl, sym, ◌∙◌, ap, subst, arith, ◌⊎◌, inl, inr, IfSome, IfNone}
+use Rattle.ms_core.proofs.Words.{◌||◌, ◌%◌, take-append-drop, get_or-take, length-take, Seg, Covers, or_cases, or_false_right, Sets, Origin, granted, act_on, last_act, settled_group, collected_group, is_loaded, MayDo, IsLegal, IsWithin, IsGrantedBy, Act, Settle, Noted, last_act-push, legal_before, legal_last, last_gained, Finds, in_any, IsLowestLacking, IsSettleBefore, Mirrors, IsBarred, by_vacant, by_given, by_gained, allocating_of, number_of, Tree, Allocatable, Allocating, Freeing, Deferred}
+use Rattle.ms_core.proofs.Barring.{barred, live_of_trees, gained_near}
 
 pub finds_along : (p q : ℕ → Bool) (seg : Seg) (found : Option ℕ) → ((u : ℕ) → p u ≡ q u) → Finds p seg found → Finds q seg found
 finds_along p q seg (Some x) same f =
@@ -30,45 +15,9 @@ finds_lacking p Has seg (Some x) bars frees f =
     (record { inside = f.0.inside; lacks = bars x f.0.inside f.0.held; below = λ u c l. frees u c (f.0.lowest u c l) }, tt)
 finds_lacking p Has seg None bars frees f = (tt, λ u c. frees u c (f.1 u c))
 
--- there is one lowest unit
-pub lowest_one : (Has : ℕ → Type 0) (seg : Seg) (a b : ℕ) → IsLowestLacking Has seg a → IsLowestLacking Has seg b → a ≡ b
-lowest_one Has seg a b one other = by_order (le_or a b) (le_or b a) where
-  by_order : (a ≤ b) ⊎ (b < a) → (b ≤ a) ⊎ (a < b) → a ≡ b
-  by_order (inl l) (inl m) = omega arith
-  by_order (inr l) m = absurd (other.lacks (one.below b other.inside l))
-  by_order l (inr m) = absurd (one.lacks (other.below a one.inside m))
-
 -- a grant's group is at most three above the settled one
-
-near_grant : (c : Bool) (by g lane group s s' : ℕ) (last : LastAct) → g ≤ s + 3 → s ≤ s' → (last ≡ granted (Some lane) group → group ≤ s + 3)
-    → cond c (granted (Some by) g) last ≡ granted (Some lane) group → group ≤ s' + 3
-near_grant true by g lane group s s' last near le before e = let same : g ≡ group = cc in omega arith
-near_grant false by g lane group s s' last near le before e = let b = before e in omega arith
-
-near_other : (c : Bool) (now last : LastAct) (lane group s s' : ℕ) → (now ≡ granted (Some lane) group → ⊥) → s ≤ s' → (last ≡ granted (Some lane) group → group ≤ s + 3)
-    → cond c now last ≡ granted (Some lane) group → group ≤ s' + 3
-near_other true now last lane group s s' none le before e = absurd (none e)
-near_other false now last lane group s s' none le before e = let b = before e in omega arith
-
-near_step : (o : Origin) (h : List Noted) (u by lane group s' : ℕ) (act : Act) → MayDo o h by act → settled_group o h ≤ s' → (last_act o h u ≡ granted (Some lane) group → group ≤ settled_group o h + 3)
-    → act_on u (last_act o h u) by act ≡ granted (Some lane) group → group ≤ s' + 3
-near_step o h u by lane group s' (Grant g seg) may le before e = near_grant (covers seg u) by g.0 lane group (settled_group o h) s' (last_act o h u) may.open_group.near le before e
-near_step o h u by lane group s' (Free g seg) may le before e = near_other (covers seg u) _ (last_act o h u) lane group (settled_group o h) s' (λ f. cc) le before e
-near_step o h u by lane group s' (Unalloc g seg) may le before e = near_other (covers seg u) _ (last_act o h u) lane group (settled_group o h) s' (λ f. cc) le before e
-near_step o h u by lane group s' _ may le before e = let b = before e in omega arith
-
-first_none : (b : Bool) (opened lane group : ℕ) → cond b (granted None opened) untouched ≡ granted (Some lane) group → ⊥
-first_none true opened lane group e = cc
-first_none false opened lane group e = cc
-
 last_near : (o : Origin) (h : List Noted) (u lane group : ℕ) → IsLegal o h → last_act o h u ≡ granted (Some lane) group → group ≤ settled_group o h + 3
-last_near o h u lane group legal =
-    by_legal o (λ l. last_act o l u ≡ granted (Some lane) group → group ≤ settled_group o l + 3)
-    (λ e. absurd (first_none (o.base u) o.opened lane group e))
-    (λ l note _ may before e.
-    near_step o l u note.lane lane group (settled_group o (l ++ note ∷ [])) note.act may
-    (omega (arith, settled_group-push o l note, settled_by_grows o l note.lane note.act may)) before (sym (last_act-push o l note u) ∙ e))
-    h legal
+last_near o h u lane group legal e = gained_near o h group u legal (last_gained o h u lane group e)
 
 stop_act : (o : Origin) (h : List Noted) (u by lane group : ℕ) (act : Act) → MayDo o h by act → IsSettleBefore act group
     → (last_act o h u ≡ granted (Some lane) group → group ≤ settled_group o h + 3) → act_on u (last_act o h u) by act ≡ granted (Some lane) group → ⊥
@@ -96,58 +45,43 @@ settle_stops o notes i d u lane group legal some le ago same e =
 
 -- what bars a free, tree by tree
 
-in_trees : (sets : Sets) (u : ℕ) → in_any sets (0 ∷ 5 ∷ 6 ∷ 7 ∷ 8 ∷ 9 ∷ 10 ∷ []) u ≡ true → (sets 0 u ≡ true) ⊎ ((tree : ℕ) × (5 ≤ tree) × (tree ≤ 10) × (sets tree u ≡ true))
-in_trees sets u e = first (or_cases _ _ e) where
-  last : (sets 10 u || false) ≡ true → (tree : ℕ) × (5 ≤ tree) × (tree ≤ 10) × (sets tree u ≡ true)
-  last e = (10, omega arith, omega arith, sym (or_false (sets 10 u)) ∙ e)
-
-  nine : (sets 9 u ≡ true) ⊎ ((sets 10 u || false) ≡ true) → (tree : ℕ) × (5 ≤ tree) × (tree ≤ 10) × (sets tree u ≡ true)
-  nine (inl e) = (9, omega arith, omega arith, e)
-  nine (inr e) = last e
-
-  eight : (sets 8 u ≡ true) ⊎ ((sets 9 u || (sets 10 u || false)) ≡ true) → (tree : ℕ) × (5 ≤ tree) × (tree ≤ 10) × (sets tree u ≡ true)
-  eight (inl e) = (8, omega arith, omega arith, e)
-  eight (inr e) = nine (or_cases _ _ e)
-
-  seven : (sets 7 u ≡ true) ⊎ ((sets 8 u || (sets 9 u || (sets 10 u || false))) ≡ true) → (tree : ℕ) × (5 ≤ tree) × (tree ≤ 10) × (sets tree u ≡ true)
-  seven (inl e) = (7, omega arith, omega arith, e)
-  seven (inr e) = eight (or_cases _ _ e)
-
-  six : (sets 6 u ≡ true) ⊎ ((sets 7 u || (sets 8 u || (sets 9 u || (sets 10 u || false)))) ≡ true) → (tree : ℕ) × (5 ≤ tree) × (tree ≤ 10) × (sets tree u ≡ true)
-  six (inl e) = (6, omega arith, omega arith, e)
-  six (inr e) = seven (or_cases _ _ e)
-
-  five : (sets 5 u ≡ true) ⊎ ((sets 6 u || (sets 7 u || (sets 8 u || (sets 9 u || (sets 10 u || false))))) ≡ true) → (tree : ℕ) × (5 ≤ tree) × (tree ≤ 10) × (sets tree u ≡ true)
-  five (inl e) = (5, omega arith, omega arith, e)
-  five (inr e) = six (or_cases _ _ e)
-
-  first : (sets 0 u ≡ true) ⊎ ((sets 5 u || (sets 6 u || (sets 7 u || (sets 8 u || (sets 9 u || (sets 10 u || false)))))) ≡ true)
-      → (sets 0 u ≡ true) ⊎ ((tree : ℕ) × (5 ≤ tree) × (tree ≤ 10) × (sets tree u ≡ true))
-  first (inl e) = inl e
-  first (inr e) = inr (five (or_cases _ _ e))
-
 or_false_left : (a b : Bool) → (a || b) ≡ false → a ≡ false
 or_false_left true b e = cc
 or_false_left false b e = refl
 
-any_none : (sets : Sets) (trees : List ℕ) (u : ℕ) → in_any sets trees u ≡ false → (k : ℕ) → k < length trees → sets (get_or trees k 0) u ≡ false
+any_none : (sets : Sets) (trees : List Tree) (u : ℕ) → in_any sets trees u ≡ false → (k : ℕ) → k < length trees → sets (number_of (get_or trees k Allocatable)) u ≡ false
 any_none sets [] u e k l = absurd (omega arith)
-any_none sets (t ∷ ts) u e zero l = or_false_left (sets t u) (in_any sets ts u) e
-any_none sets (t ∷ ts) u e (suc k) l = any_none sets ts u (or_false_right (sets t u) (in_any sets ts u) e) k (omega arith)
+any_none sets (t ∷ ts) u e zero l = or_false_left (sets (number_of t) u) (in_any sets ts u) e
+any_none sets (t ∷ ts) u e (suc k) l = any_none sets ts u (or_false_right (sets (number_of t) u) (in_any sets ts u) e) k (omega arith)
 
-any_some : (sets : Sets) (trees : List ℕ) (u : ℕ) → in_any sets trees u ≡ true → (k : ℕ) × (k < length trees) × (sets (get_or trees k 0) u ≡ true)
+any_some : (sets : Sets) (trees : List Tree) (u : ℕ) → in_any sets trees u ≡ true → (k : ℕ) × (k < length trees) × (sets (number_of (get_or trees k Allocatable)) u ≡ true)
 any_some sets [] u e = absurd (cc)
-any_some sets (t ∷ ts) u e = by_head (any_some sets ts u) (or_cases (sets t u) (in_any sets ts u) e) where
-  by_head : (in_any sets ts u ≡ true → (k : ℕ) × (k < length ts) × (sets (get_or ts k 0) u ≡ true)) → (sets t u ≡ true) ⊎ (in_any sets ts u ≡ true)
-      → (k : ℕ) × (k < length (t ∷ ts)) × (sets (get_or (t ∷ ts) k 0) u ≡ true)
+any_some sets (t ∷ ts) u e = by_head (any_some sets ts u) (or_cases (sets (number_of t) u) (in_any sets ts u) e) where
+  by_head : (in_any sets ts u ≡ true → (k : ℕ) × (k < length ts) × (sets (number_of (get_or ts k Allocatable)) u ≡ true)) → (sets (number_of t) u ≡ true) ⊎ (in_any sets ts u ≡ true)
+      → (k : ℕ) × (k < length (t ∷ ts)) × (sets (number_of (get_or (t ∷ ts) k Allocatable)) u ≡ true)
   by_head later (inl here) = (0, omega arith, here)
   by_head later (inr there) = let f = later there in (suc f.0, omega arith, f.2)
 
--- the trees of the groups after one, as many as are open
-abbrev pub later_trees : ℕ → List ℕ
-later_trees group = (1 + (group % 4 + 1) % 4) ∷ (1 + (group % 4 + 2) % 4) ∷ (1 + (group % 4 + 3) % 4) ∷ []
+-- the trees of what is not handed out
+abbrev pub not_handed_out : List Tree
+not_handed_out =
+    Allocatable ∷ Freeing (record { 0 = 0 }) ∷ Freeing (record { 0 = 1 }) ∷ Freeing (record { 0 = 2 }) ∷ Freeing (record { 0 = 3 })
+    ∷ Deferred (record { 0 = 0 }) ∷ Deferred (record { 0 = 1 }) ∷ []
 
-later_is : (group k : ℕ) → k < 3 → get_or (later_trees group) k 0 ≡ allocating_of (group + (k + 1))
+number_at : (k : ℕ) → k < 6 → number_of (get_or not_handed_out (suc k) Allocatable) ≡ 5 + k
+number_at zero l = refl
+number_at (suc zero) l = refl
+number_at (suc (suc zero)) l = refl
+number_at (suc (suc (suc zero))) l = refl
+number_at (suc (suc (suc (suc zero)))) l = refl
+number_at (suc (suc (suc (suc (suc zero))))) l = refl
+number_at (suc (suc (suc (suc (suc (suc k)))))) l = absurd (omega arith)
+
+-- the trees of the groups after one, as many as are open
+abbrev pub later_trees : ℕ → List Tree
+later_trees group = Allocating (record { 0 = group % 4 + 1 }) ∷ Allocating (record { 0 = group % 4 + 2 }) ∷ Allocating (record { 0 = group % 4 + 3 }) ∷ []
+
+later_is : (group k : ℕ) → k < 3 → number_of (get_or (later_trees group) k Allocatable) ≡ allocating_of (group + (k + 1))
 later_is group zero l = omega arith
 later_is group (suc zero) l = omega arith
 later_is group (suc (suc zero)) l = omega arith
@@ -156,22 +90,22 @@ later_is group (suc (suc (suc k))) l = absurd (omega arith)
 module _ (o : Origin) (h : List Noted) (sets : Sets) (legal : IsLegal o h) (m : Mirrors o h sets) (loaded : is_loaded h ≡ true) (group many : ℕ)
     (above : collected_group o h < group) (open_many : many + (group - collected_group o h) ≡ 4) (near : group ≤ collected_group o h + 3) where
   abbrev pub bars : ℕ → Bool
-  bars u = in_any sets (0 ∷ 5 ∷ 6 ∷ 7 ∷ 8 ∷ 9 ∷ 10 ∷ []) u || in_any sets (take many (later_trees group)) u
+  bars u = in_any sets not_handed_out u || in_any sets (take many (later_trees group)) u
 
-  later_at : (k : ℕ) → k < many → get_or (take many (later_trees group)) k 0 ≡ allocating_of (group + (k + 1))
-  later_at k l = get_or-take many (later_trees group) k 0 l ∙ later_is group k (omega arith)
+  later_at : (k : ℕ) → k < many → number_of (get_or (take many (later_trees group)) k Allocatable) ≡ allocating_of (group + (k + 1))
+  later_at k l = ap number_of (get_or-take many (later_trees group) k Allocatable l) ∙ later_is group k (omega arith)
 
   many_long : length (take many (later_trees group)) ≡ many
   many_long = let three : length (later_trees group) ≡ 3 = refl in omega (arith, length-take many (later_trees group))
 
   barred_so : (u : ℕ) → bars u ≡ true → IsBarred o h sets group u
-  barred_so u e = by_part (or_cases (in_any sets (0 ∷ 5 ∷ 6 ∷ 7 ∷ 8 ∷ 9 ∷ 10 ∷ []) u) (in_any sets (take many (later_trees group)) u) e) where
-    by_tree : (sets 0 u ≡ true) ⊎ ((tree : ℕ) × (5 ≤ tree) × (tree ≤ 10) × (sets tree u ≡ true)) → IsBarred o h sets group u
-    by_tree (inl f) = by_vacant f
-    by_tree (inr t) = by_given t.0 t.1 t.2 t.3
+  barred_so u e = by_part (or_cases (in_any sets not_handed_out u) (in_any sets (take many (later_trees group)) u) e) where
+    by_place : (k : ℕ) → k < 7 → sets (number_of (get_or not_handed_out k Allocatable)) u ≡ true → IsBarred o h sets group u
+    by_place zero l f = by_vacant f
+    by_place (suc k) l f = by_given (5 + k) (omega arith) (omega arith) (ap (λ n. sets n u) (sym (number_at k (omega arith))) ∙ f)
 
-    by_part : (in_any sets (0 ∷ 5 ∷ 6 ∷ 7 ∷ 8 ∷ 9 ∷ 10 ∷ []) u ≡ true) ⊎ (in_any sets (take many (later_trees group)) u ≡ true) → IsBarred o h sets group u
-    by_part (inl f) = by_tree (in_trees sets u f)
+    by_part : (in_any sets not_handed_out u ≡ true) ⊎ (in_any sets (take many (later_trees group)) u ≡ true) → IsBarred o h sets group u
+    by_part (inl f) = let t = any_some sets not_handed_out u f in by_place t.0 t.1 t.2
     by_part (inr f) =
         let t = any_some sets (take many (later_trees group)) u f in
         let low : t.0 < many = omega (arith, many_long, t.1) in
@@ -179,21 +113,19 @@ module _ (o : Origin) (h : List Noted) (sets : Sets) (legal : IsLegal o h) (m : 
 
   free_so : (u : ℕ) → u < o.units → bars u ≡ false → IsGrantedBy group (last_act o h u)
   free_so u inside e = live_of_trees o h sets legal m loaded group u inside above vacant given gained where
-    fixed : in_any sets (0 ∷ 5 ∷ 6 ∷ 7 ∷ 8 ∷ 9 ∷ 10 ∷ []) u ≡ false
-    fixed = or_false_left (in_any sets (0 ∷ 5 ∷ 6 ∷ 7 ∷ 8 ∷ 9 ∷ 10 ∷ []) u) (in_any sets (take many (later_trees group)) u) e
+    fixed : in_any sets not_handed_out u ≡ false
+    fixed = or_false_left (in_any sets not_handed_out u) (in_any sets (take many (later_trees group)) u) e
 
     moving : in_any sets (take many (later_trees group)) u ≡ false
-    moving = or_false_right (in_any sets (0 ∷ 5 ∷ 6 ∷ 7 ∷ 8 ∷ 9 ∷ 10 ∷ []) u) (in_any sets (take many (later_trees group)) u) e
+    moving = or_false_right (in_any sets not_handed_out u) (in_any sets (take many (later_trees group)) u) e
 
     vacant : sets 0 u ≡ false
-    vacant = any_none sets (0 ∷ 5 ∷ 6 ∷ 7 ∷ 8 ∷ 9 ∷ 10 ∷ []) u fixed 0 (omega arith)
-
-    place_of : (tree : ℕ) → 5 ≤ tree → tree ≤ 10 → get_or (0 ∷ 5 ∷ 6 ∷ 7 ∷ 8 ∷ 9 ∷ 10 ∷ []) (tree - 4) 0 ≡ tree
-    place_of tree low high = grind arith
+    vacant = any_none sets not_handed_out u fixed 0 (omega arith)
 
     given : (tree : ℕ) → 5 ≤ tree → tree ≤ 10 → sets tree u ≡ false
     given tree low high =
-        ap (λ n. sets n u) (sym (place_of tree low high)) ∙ any_none sets (0 ∷ 5 ∷ 6 ∷ 7 ∷ 8 ∷ 9 ∷ 10 ∷ []) u fixed (tree - 4) (omega arith)
+        let same : 5 + (tree - 5) ≡ tree = omega arith in
+        ap (λ n. sets n u) (sym (number_at (tree - 5) (omega arith) ∙ same)) ∙ any_none sets not_handed_out u fixed (suc (tree - 5)) (omega arith)
 
     gained : (t : ℕ) → group < t → t ≤ collected_group o h + 4 → sets (allocating_of t) u ≡ false
     gained t later within =

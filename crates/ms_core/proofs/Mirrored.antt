@@ -1,29 +1,6 @@
 -- The trees of a metaslab say what its journal says, after each act.
 use Rattle.std.proofs.Common.{◌≡◌, ℕ, ◌+◌, ◌-◌, ◌≤◌, ◌<◌, Bool, true, false, cond, Some, List, [], ◌∷◌, ◌++◌, refl, sym, ◌∙◌, ap, subst, arith, ◌⊎◌, inl, inr}
-use Rattle.std.specs.Prelude.{◌||◌, ◌&&◌, not, ◌==◌, ◌%◌}
-use Rattle.std.proofs.lemmas.Bool.{lt-ltb}
-use Rattle.zms_units.specs.declared.segments.Seg.{Seg}
-use Rattle.zms_units.specs.declared.segments.Group.{Group}
-use Rattle.zms_units.specs.Segments.{covers}
-use Rattle.zms_units.proofs.UnitTests.{le_or, true_or_false, same_not, covers_true, covers_high, or_false, or_right}
-use Rattle.seg_trees.specs.Sets.{Sets, AreDisjoint, AllStay, OthersStay, OthersStayBut}
-use Rattle.ms_model.specs.Origin.{Origin}
-use Rattle.ms_model.specs.Units.{LastAct, granted, freed, taken_back, act_on, last_act, settled_by, settled_group, collected_by, collected_group, loaded_by, is_loaded}
-use Rattle.ms_model.specs.Spaces.{keeps_busy, is_vacant}
-use Rattle.ms_model.specs.Gains.{gained_by, is_gained, gives, is_given}
-use Rattle.ms_model.specs.Legal.{MayGrant, MayFree, MayTakeBack, IsLegal}
-use Rattle.ms_model.specs.declared.notes.Act.{Act}
-use Rattle.ms_model.specs.declared.notes.Act.TheVariants.{Grant, Free, Unalloc, Miss, Shut, Collect, Settle, Load}
-use Rattle.ms_model.specs.declared.notes.Noted.{Noted}
-use Rattle.ms_model.proofs.Histories.{last_act-push, settled_group-push, collected_group-push, is_loaded-push, is_gained-push, is_given-push}
-use Rattle.ms_model.proofs.UnitFacts.{and-false}
-use Rattle.ms_model.proofs.Overlaps.{settled_le_collected}
-use Rattle.ms_model.proofs.Changes.{ChangesIn, gained_quiet, gives_quiet, own_group, gained_far, given_far, granted_by_live, live_busy, vacant_next}
-use Rattle.ms_core.specs.Mirrors.{Mirrors, Settles, allocating_of, freeing_of, deferred_of}
-
--- a journal with one more act
-abbrev pub after_act : List Noted → ℕ → Act → List Noted
-after_act h lane act = h ++ record { lane = lane; act = act } ∷ []
+use Rattle.ms_core.proofs.Words.{noted, ◌||◌, ◌&&◌, not, ◌==◌, ◌%◌, lt-ltb, Seg, Group, covers, le_or, true_or_false, covers_true, covers_high, or_false, or_right, Sets, OthersStay, OthersStayBut, Origin, LastAct, granted, freed, taken_back, act_on, last_act, settled_by, settled_group, collected_by, collected_group, loaded_by, is_loaded, keeps_busy, is_vacant, gained_by, is_gained, gives, is_given, IsOpenGroup, IsWithin, MayGrant, MayFree, MayTakeBack, IsLegal, Act, Grant, Free, Unalloc, Collect, Settle, Load, Noted, last_act-push, settled_group-push, collected_group-push, is_loaded-push, is_gained-push, is_given-push, and_false, settled_le_collected, ChangesIn, gained_quiet, gives_quiet, own_group, gained_far, given_far, granted_by_live, live_busy, vacant_next, Mirrors, Settles, allocating_of, freeing_of, deferred_of}
 
 -- before the first note all trees are empty
 pub mirrors_first : (o : Origin) (sets : Sets) → ((tree u : ℕ) → sets tree u ≡ false) → Mirrors o [] sets
@@ -37,39 +14,29 @@ mirrors_first o sets empty =
       deferred = λ t u _ _. empty (deferred_of t) u;
     }
 
--- trees that stay
-pub mirrors_stay : (o : Origin) (h : List Noted) (sets new : Sets) → AllStay sets new → Mirrors o h sets → Mirrors o h new
-mirrors_stay o h sets new stay m =
-    record {
-      within = λ tree u above. stay tree u ∙ m.within tree u above;
-      vacant = λ loaded u inside. stay 0 u ∙ m.vacant loaded u inside;
-      unloaded = λ idle u. stay 0 u ∙ m.unloaded idle u;
-      gained = λ t u low high. stay (allocating_of t) u ∙ m.gained t u low high;
-      given = λ t u low high. stay (freeing_of t) u ∙ m.given t u low high;
-      deferred = λ t u low high. stay (deferred_of t) u ∙ m.deferred t u low high;
-    }
-
--- what the trees say after an act, as each part of a journal moves by it
-record After (o : Origin) (h : List Noted) (lane : ℕ) (act : Act) (new : Sets) : Type 0 where
+-- what the trees say after an act, with the groups that are settled and collected then, and whether it is loaded
+record After (o : Origin) (h : List Noted) (lane : ℕ) (act : Act) (new : Sets) (s c : ℕ) (l : Bool) : Type 0 where
   within : (tree u : ℕ) → o.units ≤ u → new tree u ≡ false
-  vacant : loaded_by (is_loaded h) act ≡ true → (u : ℕ) → u < o.units → new 0 u ≡ not (keeps_busy (settled_by (settled_group o h) act) (act_on u (last_act o h u) lane act))
-  unloaded : loaded_by (is_loaded h) act ≡ false → (u : ℕ) → new 0 u ≡ false
-  gained : (t u : ℕ) → collected_by (collected_group o h) act < t → t ≤ collected_by (collected_group o h) act + 4 → new (allocating_of t) u ≡ gained_by t u (is_gained t h u) act
-  given : (t u : ℕ) → settled_by (settled_group o h) act < t → t ≤ settled_by (settled_group o h) act + 4 → new (freeing_of t) u ≡ (is_given t h u || gives t u act)
-  deferred : (t u : ℕ) → settled_by (settled_group o h) act < t → t ≤ settled_by (settled_group o h) act + 2 → new (deferred_of t) u ≡ (is_given (t - 2) h u || gives (t - 2) u act)
+  vacant : l ≡ true → (u : ℕ) → u < o.units → new 0 u ≡ not (keeps_busy s (act_on u (last_act o h u) lane act))
+  unloaded : l ≡ false → (u : ℕ) → new 0 u ≡ false
+  gained : (t u : ℕ) → c < t → t ≤ c + 4 → new (allocating_of t) u ≡ gained_by t u (is_gained t h u) act
+  given : (t u : ℕ) → s < t → t ≤ s + 4 → new (freeing_of t) u ≡ (is_given t h u || gives t u act)
+  deferred : (t u : ℕ) → s < t → t ≤ s + 2 → new (deferred_of t) u ≡ (is_given (t - 2) h u || gives (t - 2) u act)
 
-mirrors_after : (o : Origin) (h : List Noted) (lane : ℕ) (act : Act) (new : Sets) → After o h lane act new → Mirrors o (after_act h lane act) new
-mirrors_after o h lane act new a =
+mirrors_after : (o : Origin) (h : List Noted) (lane : ℕ) (act : Act) (new : Sets) (s c : ℕ) (l : Bool) → settled_by (settled_group o h) act ≡ s → collected_by (collected_group o h) act ≡ c → loaded_by (is_loaded h) act ≡ l
+    → After o h lane act new s c l → Mirrors o (noted h lane act) new
+mirrors_after o h lane act new s c l is_s is_c is_l a =
     let note : Noted = record { lane = lane; act = act } in
-    let s : settled_group o (h ++ note ∷ []) ≡ settled_by (settled_group o h) act = settled_group-push o h note in
-    let c : collected_group o (h ++ note ∷ []) ≡ collected_by (collected_group o h) act = collected_group-push o h note in
+    let same_s : settled_group o (h ++ note ∷ []) ≡ s = settled_group-push o h note ∙ is_s in
+    let same_c : collected_group o (h ++ note ∷ []) ≡ c = collected_group-push o h note ∙ is_c in
+    let same_l : is_loaded (h ++ note ∷ []) ≡ l = is_loaded-push h note ∙ is_l in
     record {
       within = a.within;
       vacant = λ loaded u inside.
-          a.vacant (sym (is_loaded-push h note) ∙ loaded) u inside
-          ∙ (ap (λ n. not (keeps_busy n (act_on u (last_act o h u) lane act))) (sym s)
+          a.vacant (sym same_l ∙ loaded) u inside
+          ∙ (ap (λ n. not (keeps_busy n (act_on u (last_act o h u) lane act))) (sym same_s)
           ∙ ap (λ last. not (keeps_busy (settled_group o (h ++ note ∷ [])) last)) (sym (last_act-push o h note u)));
-      unloaded = λ idle u. a.unloaded (sym (is_loaded-push h note) ∙ idle) u;
+      unloaded = λ idle u. a.unloaded (sym same_l ∙ idle) u;
       gained = λ t u low high. a.gained t u (omega arith) (omega arith) ∙ sym (is_gained-push t h note u);
       given = λ t u low high. a.given t u (omega arith) (omega arith) ∙ sym (is_given-push t h note u);
       deferred = λ t u low high. a.deferred t u (omega arith) (omega arith) ∙ sym (is_given-push (t - 2) h note u);
@@ -83,6 +50,13 @@ same_or a b = by_order (le_or a b) (le_or b a) where
   by_order (inl low) (inl high) = inl (omega arith)
   by_order (inl low) (inr high) = inr (λ e. omega arith)
   by_order (inr low) high = inr (λ e. omega arith)
+
+-- what holds of a group, and of each other one
+by_group : (P : ℕ → Type 0) (t g : ℕ) → P g → ((t ≡ g → ⊥) → P t) → P t
+by_group P t g own other = by (same_or t g) where
+  by : (t ≡ g) ⊎ (t ≡ g → ⊥) → P t
+  by (inl e) = subst P (sym e) own
+  by (inr e) = other e
 
 four_apart : (c t g : ℕ) → c < t → t ≤ c + 4 → c < g → g ≤ c + 4 → (t ≡ g → ⊥) → t % 4 ≡ g % 4 → ⊥
 four_apart c t g low high from upto none e = none (omega arith)
@@ -102,62 +76,53 @@ none_in_one sets new but u others none a tree = none_in sets new but but u (λ o
 
 -- one unit
 
-with_one : (c y x : Bool) → y ≡ true → (c || x) ≡ cond (y && c) true x
-with_one true y x e = rw e refl
-with_one false y x e = rw (and-false y) refl
+put_is : (c x : Bool) → (c || x) ≡ cond c true x
+put_is true x = refl
+put_is false x = refl
 
-without_one : (c y x : Bool) → y ≡ true → (not c && x) ≡ cond (y && c) false x
-without_one true y x e = rw e refl
-without_one false y x e = rw (and-false y) refl
+cut_is : (c x : Bool) → (not c && x) ≡ cond c false x
+cut_is true x = refl
+cut_is false x = refl
+
+not_cond : (c x y : Bool) → cond c (not x) (not y) ≡ not (cond c x y)
+not_cond true x y = refl
+not_cond false x y = refl
 
 or_one : (c y x : Bool) → y ≡ true → (c || x) ≡ (x || (y && c))
 or_one true y x e = rw e (sym (or_right x true refl))
-or_one false y x e = rw (and-false y) (sym (or_false x))
+or_one false y x e = rw (and_false y) (sym (or_false x))
 
-busy_grant : (c : Bool) (s lane g : ℕ) (last : LastAct) → (not c && not (keeps_busy s last)) ≡ not (keeps_busy s (cond c (granted (Some lane) g) last))
-busy_grant true s lane g last = refl
-busy_grant false s lane g last = refl
-
-busy_unalloc : (c : Bool) (s : ℕ) (last : LastAct) → (c || not (keeps_busy s last)) ≡ not (keeps_busy s (cond c taken_back last))
-busy_unalloc true s last = refl
-busy_unalloc false s last = refl
+busy_by : (c : Bool) (s : ℕ) (now last : LastAct) → keeps_busy s (cond c now last) ≡ cond c (keeps_busy s now) (keeps_busy s last)
+busy_by true s now last = refl
+busy_by false s now last = refl
 
 busy_free : (c : Bool) (s g : ℕ) (last : LastAct) → s < g + 2 → (c ≡ true → keeps_busy s last ≡ true) → keeps_busy s last ≡ keeps_busy s (cond c (freed g) last)
 busy_free true s g last near live = live refl ∙ sym (lt-ltb s (g + 2) near)
 busy_free false s g last near live = refl
 
-module _ (o : Origin) (h : List Noted) (sets : Sets) (legal : IsLegal o h) (m : Mirrors o h sets) (new : Sets) where
+module _ (o : Origin) (h : List Noted) (sets : Sets) (legal : IsLegal o h) (m : Mirrors o h sets) where
   order : settled_group o h ≤ collected_group o h
   order = settled_le_collected o h legal
 
   -- an act that changes no unit and no group, and neither loads nor unloads
   pub mirrors_quiet : (lane : ℕ) (act : Act) → settled_by (settled_group o h) act ≡ settled_group o h → collected_by (collected_group o h) act ≡ collected_group o h
-      → loaded_by (is_loaded h) act ≡ is_loaded h → ((u : ℕ) → act_on u (last_act o h u) lane act ≡ last_act o h u)
-      → ((t : ℕ) → ChangesIn t act → ⊥) → AllStay sets new → Mirrors o (after_act h lane act) new
-  mirrors_quiet lane act s c l same none stay =
-      mirrors_after o h lane act new (record {
-        within = λ tree u above. stay tree u ∙ m.within tree u above;
-        vacant = λ loaded u inside.
-            stay 0 u ∙ (m.vacant (sym l ∙ loaded) u inside
-            ∙ (ap (λ last. not (keeps_busy (settled_group o h) last)) (sym (same u)) ∙ ap (λ n. not (keeps_busy n (act_on u (last_act o h u) lane act))) (sym s)));
-        unloaded = λ idle u. stay 0 u ∙ m.unloaded (sym l ∙ idle) u;
-        gained = λ t u low high. stay (allocating_of t) u ∙ (m.gained t u (omega arith) (omega arith) ∙ sym (gained_quiet t u (is_gained t h u) act (none t)));
-        given = λ t u low high. stay (freeing_of t) u ∙ (m.given t u (omega arith) (omega arith) ∙ sym (ap (λ b. is_given t h u || b) (gives_quiet t u act (none t)) ∙ or_false (is_given t h u)));
-        deferred = λ t u low high.
-            stay (deferred_of t) u
-            ∙ (m.deferred t u (omega arith) (omega arith) ∙ sym (ap (λ b. is_given (t - 2) h u || b) (gives_quiet (t - 2) u act (none (t - 2))) ∙ or_false (is_given (t - 2) h u)));
+      → loaded_by (is_loaded h) act ≡ is_loaded h → ((u : ℕ) → act_on u (last_act o h u) lane act ≡ last_act o h u) → ((t : ℕ) → ChangesIn t act → ⊥) → Mirrors o (noted h lane act) sets
+  mirrors_quiet lane act s c l same none =
+      let still : (t u : ℕ) → is_given t h u ≡ (is_given t h u || gives t u act) = λ t u. sym (ap (λ b. is_given t h u || b) (gives_quiet t u act (none t)) ∙ or_false (is_given t h u)) in
+      mirrors_after o h lane act sets (settled_group o h) (collected_group o h) (is_loaded h) s c l (record {
+        within = m.within;
+        vacant = λ loaded u inside. m.vacant loaded u inside ∙ ap (λ last. not (keeps_busy (settled_group o h) last)) (sym (same u));
+        unloaded = m.unloaded;
+        gained = λ t u low high. m.gained t u low high ∙ sym (gained_quiet t u (is_gained t h u) act (none t));
+        given = λ t u low high. m.given t u low high ∙ still t u;
+        deferred = λ t u low high. m.deferred t u low high ∙ still (t - 2) u;
       })
 
-  pub mirrors_miss : (lane count : ℕ) → AllStay sets new → Mirrors o (after_act h lane (Miss count)) new
-  mirrors_miss lane count stay = mirrors_quiet lane (Miss count) refl refl refl (λ u. refl) (λ t x. x) stay
-
-  pub mirrors_shut : (lane : ℕ) → AllStay sets new → Mirrors o (after_act h lane Shut) new
-  mirrors_shut lane stay = mirrors_quiet lane Shut refl refl refl (λ u. refl) (λ t x. x) stay
-
+module _ (o : Origin) (h : List Noted) (sets : Sets) (legal : IsLegal o h) (m : Mirrors o h sets) (new : Sets) where
   -- a group's own change, and that of another group
-  gained_other : (t u g : ℕ) (act : Act) → collected_group o h < t → t ≤ collected_group o h + 4 → (ChangesIn t act → ⊥)
+  gained_other : (t u : ℕ) (act : Act) → collected_group o h < t → t ≤ collected_group o h + 4 → (ChangesIn t act → ⊥)
       → new (allocating_of t) u ≡ sets (allocating_of t) u → new (allocating_of t) u ≡ gained_by t u (is_gained t h u) act
-  gained_other t u g act low high none same = same ∙ (m.gained t u low high ∙ sym (gained_quiet t u (is_gained t h u) act none))
+  gained_other t u act low high none same = same ∙ (m.gained t u low high ∙ sym (gained_quiet t u (is_gained t h u) act none))
 
   given_other : (t u : ℕ) (act : Act) → settled_group o h < t → t ≤ settled_group o h + 4 → gives t u act ≡ false
       → new (freeing_of t) u ≡ sets (freeing_of t) u → new (freeing_of t) u ≡ (is_given t h u || gives t u act)
@@ -167,112 +132,92 @@ module _ (o : Origin) (h : List Noted) (sets : Sets) (legal : IsLegal o h) (m : 
       → new (deferred_of t) u ≡ sets (deferred_of t) u → new (deferred_of t) u ≡ (is_given (t - 2) h u || gives (t - 2) u act)
   deferred_other t u act low high none same = same ∙ (m.deferred t u low high ∙ sym (ap (λ b. is_given (t - 2) h u || b) none ∙ or_false (is_given (t - 2) h u)))
 
+  -- a segment goes from the vacant units to what an open group gained, or back from there
+  trades : (out : Bool) (lane : ℕ) (group : Group) (seg : Seg) (act : Act) → is_loaded h ≡ true → IsOpenGroup o h group.0 → IsWithin o.units seg
+      → ((u : ℕ) (b : Bool) → gained_by group.0 u b act ≡ cond (covers seg u) out b) → ((t : ℕ) → (t ≡ group.0 → ⊥) → ChangesIn t act → ⊥) → ((t u : ℕ) → gives t u act ≡ false)
+      → ((u : ℕ) → keeps_busy (settled_group o h) (act_on u (last_act o h u) lane act) ≡ cond (covers seg u) out (keeps_busy (settled_group o h) (last_act o h u)))
+      → ((u : ℕ) → new 0 u ≡ cond (covers seg u) (not out) (sets 0 u))
+      → ((u : ℕ) → new (allocating_of group.0) u ≡ cond (covers seg u) out (sets (allocating_of group.0) u))
+      → OthersStayBut sets new 0 (allocating_of group.0) → After o h lane act new (settled_group o h) (collected_group o h) true
+  trades out lane group seg act loaded open_group within own quiet none busy vacant gained others =
+      record {
+        within = λ tree u above.
+            none_in sets new 0 (allocating_of group.0) u others (λ n. m.within n u above)
+            (vacant u ∙ rw (covers_high seg u (omega (arith, within.within))) (m.within 0 u above))
+            (gained u ∙ rw (covers_high seg u (omega (arith, within.within))) (m.within (allocating_of group.0) u above)) tree;
+        vacant = λ _ u inside.
+            vacant u ∙ (ap (cond (covers seg u) (not out)) (m.vacant loaded u inside)
+            ∙ (not_cond (covers seg u) out (keeps_busy (settled_group o h) (last_act o h u)) ∙ ap not (sym (busy u))));
+        unloaded = λ idle u. absurd (cc);
+        gained = λ t u low high.
+            by_group (λ n. new (allocating_of n) u ≡ gained_by n u (is_gained n h u) act) t group.0
+            (gained u ∙ (ap (cond (covers seg u) out) (m.gained group.0 u open_group.above near) ∙ sym (own u (is_gained group.0 h u))))
+            (λ e. gained_other t u act low high (quiet t e)
+            (others (allocating_of t) u (λ f. omega arith) (λ f. four_apart (collected_group o h) t group.0 low high open_group.above near e (omega arith))));
+        given = λ t u low high. given_other t u act low high (none t u) (others (freeing_of t) u (λ e. omega arith) (λ e. omega arith));
+        deferred = λ t u low high. deferred_other t u act low high (none (t - 2) u) (others (deferred_of t) u (λ e. omega arith) (λ e. omega arith));
+      } where
+        near : group.0 ≤ collected_group o h + 4
+        near = omega (arith, open_group.near, (order o h sets legal m))
+
   pub mirrors_grant : (lane : ℕ) (group : Group) (seg : Seg) → MayGrant o h group.0 seg
       → ((u : ℕ) → new 0 u ≡ (not (covers seg u) && sets 0 u))
       → ((u : ℕ) → new (allocating_of group.0) u ≡ (covers seg u || sets (allocating_of group.0) u))
-      → OthersStayBut sets new 0 (allocating_of group.0) → Mirrors o (after_act h lane (Grant group seg)) new
+      → OthersStayBut sets new 0 (allocating_of group.0) → Mirrors o (noted h lane (Grant group seg)) new
   mirrors_grant lane group seg may left gained others =
-      mirrors_after o h lane (Grant group seg) new (record {
-        within = λ tree u above.
-            none_in sets new 0 (allocating_of group.0) u others (λ n. m.within n u above)
-            (left u ∙ (ap (λ b. not (covers seg u) && b) (m.within 0 u above) ∙ and-false (not (covers seg u))))
-            (gained u ∙ rw (covers_high seg u (omega (arith, may.within.within))) (m.within (allocating_of group.0) u above)) tree;
-        vacant = λ loaded u inside.
-            left u ∙ (ap (λ b. not (covers seg u) && b) (m.vacant loaded u inside) ∙ busy_grant (covers seg u) (settled_group o h) lane group.0 (last_act o h u));
-        unloaded = λ idle u. absurd (same_not may.takes.loaded idle);
-        gained = λ t u low high. gained_at t u low high (same_or t group.0);
-        given = λ t u low high. given_other t u (Grant group seg) low high refl (others (freeing_of t) u (λ e. omega arith) (λ e. omega arith));
-        deferred = λ t u low high. deferred_other t u (Grant group seg) low high refl (others (deferred_of t) u (λ e. omega arith) (λ e. omega arith));
-      }) where
-        near : group.0 ≤ collected_group o h + 4
-        near = omega (arith, may.open_group.near, order)
-
-        own : (u : ℕ) → new (allocating_of group.0) u ≡ gained_by group.0 u (is_gained group.0 h u) (Grant group seg)
-        own u =
-            gained u ∙ (ap (λ b. covers seg u || b) (m.gained group.0 u may.open_group.above near)
-            ∙ with_one (covers seg u) (group.0 == group.0) (is_gained group.0 h u) (own_group group.0 group.0 refl))
-
-        gained_at : (t u : ℕ) → collected_group o h < t → t ≤ collected_group o h + 4 → (t ≡ group.0) ⊎ (t ≡ group.0 → ⊥)
-            → new (allocating_of t) u ≡ gained_by t u (is_gained t h u) (Grant group seg)
-        gained_at t u low high (inl e) = subst (λ n. new (allocating_of n) u ≡ gained_by n u (is_gained n h u) (Grant group seg)) (sym e) (own u)
-        gained_at t u low high (inr e) =
-            gained_other t u group.0 (Grant group seg) low high (λ f. e (sym f))
-            (others (allocating_of t) u (λ f. omega arith) (λ f. four_apart (collected_group o h) t group.0 low high may.open_group.above near e (omega arith)))
-
-  pub mirrors_free : (lane : ℕ) (group : Group) (seg : Seg) → MayFree o h group.0 seg
-      → ((u : ℕ) → new (freeing_of group.0) u ≡ (covers seg u || sets (freeing_of group.0) u))
-      → OthersStay sets new (freeing_of group.0) → Mirrors o (after_act h lane (Free group seg)) new
-  mirrors_free lane group seg may given others =
-      mirrors_after o h lane (Free group seg) new (record {
-        within = λ tree u above.
-            none_in_one sets new (freeing_of group.0) u others (λ n. m.within n u above)
-            (given u ∙ rw (covers_high seg u (omega (arith, may.within.within))) (m.within (freeing_of group.0) u above)) tree;
-        vacant = λ loaded u inside.
-            others 0 u (λ e. omega arith)
-            ∙ (m.vacant loaded u inside
-            ∙ ap not (busy_free (covers seg u) (settled_group o h) group.0 (last_act o h u) (omega (arith, later))
-            (λ c. live_busy (settled_group o h) (last_act o h u) (granted_by_live group.0 (last_act o h u) (may.live u (covers_true seg u c))))));
-        unloaded = λ idle u. absurd (same_not may.loaded idle);
-        gained = λ t u low high. others (allocating_of t) u (λ e. omega arith) ∙ m.gained t u low high;
-        given = λ t u low high. given_at t u low high (same_or t group.0);
-        deferred = λ t u low high.
-            deferred_other t u (Free group seg) low high (gives_quiet (t - 2) u (Free group seg) (λ e. omega (arith, later))) (others (deferred_of t) u (λ e. omega arith));
-      }) where
-        later : settled_group o h < group.0
-        later = omega (arith, may.open_group.above, order)
-
-        near : group.0 ≤ settled_group o h + 4
-        near = omega (arith, may.open_group.near)
-
-        own : (u : ℕ) → new (freeing_of group.0) u ≡ (is_given group.0 h u || gives group.0 u (Free group seg))
-        own u =
-            given u ∙ (ap (λ b. covers seg u || b) (m.given group.0 u later near)
-            ∙ or_one (covers seg u) (group.0 == group.0) (is_given group.0 h u) (own_group group.0 group.0 refl))
-
-        given_at : (t u : ℕ) → settled_group o h < t → t ≤ settled_group o h + 4 → (t ≡ group.0) ⊎ (t ≡ group.0 → ⊥)
-            → new (freeing_of t) u ≡ (is_given t h u || gives t u (Free group seg))
-        given_at t u low high (inl e) = subst (λ n. new (freeing_of n) u ≡ (is_given n h u || gives n u (Free group seg))) (sym e) (own u)
-        given_at t u low high (inr e) =
-            given_other t u (Free group seg) low high (gives_quiet t u (Free group seg) (λ f. e (sym f)))
-            (others (freeing_of t) u (λ f. four_apart (settled_group o h) t group.0 low high later near e (omega arith)))
+      mirrors_after o h lane (Grant group seg) new _ _ true refl refl may.takes.loaded
+      (trades true lane group seg (Grant group seg) may.takes.loaded may.open_group may.within
+      (λ u b. ap (λ y. cond (y && covers seg u) true b) (own_group group.0 group.0 refl)) (λ t e f. e (sym f)) (λ t u. refl)
+      (λ u. busy_by (covers seg u) (settled_group o h) (granted (Some lane) group.0) (last_act o h u))
+      (λ u. left u ∙ cut_is (covers seg u) (sets 0 u)) (λ u. gained u ∙ put_is (covers seg u) (sets (allocating_of group.0) u)) others)
 
   pub mirrors_unalloc : (lane : ℕ) (group : Group) (seg : Seg) → MayTakeBack o h lane group.0 seg
       → ((u : ℕ) → new 0 u ≡ (covers seg u || sets 0 u))
       → ((u : ℕ) → new (allocating_of group.0) u ≡ (not (covers seg u) && sets (allocating_of group.0) u))
-      → OthersStayBut sets new 0 (allocating_of group.0) → Mirrors o (after_act h lane (Unalloc group seg)) new
+      → OthersStayBut sets new 0 (allocating_of group.0) → Mirrors o (noted h lane (Unalloc group seg)) new
   mirrors_unalloc lane group seg may back left others =
-      mirrors_after o h lane (Unalloc group seg) new (record {
+      mirrors_after o h lane (Unalloc group seg) new _ _ true refl refl may.loaded
+      (trades false lane group seg (Unalloc group seg) may.loaded may.open_group may.within
+      (λ u b. ap (λ y. cond (y && covers seg u) false b) (own_group group.0 group.0 refl)) (λ t e f. e (sym f)) (λ t u. refl)
+      (λ u. busy_by (covers seg u) (settled_group o h) taken_back (last_act o h u))
+      (λ u. back u ∙ put_is (covers seg u) (sets 0 u)) (λ u. left u ∙ cut_is (covers seg u) (sets (allocating_of group.0) u)) others)
+
+  pub mirrors_free : (lane : ℕ) (group : Group) (seg : Seg) → MayFree o h group.0 seg
+      → ((u : ℕ) → new (freeing_of group.0) u ≡ (covers seg u || sets (freeing_of group.0) u))
+      → OthersStay sets new (freeing_of group.0) → Mirrors o (noted h lane (Free group seg)) new
+  mirrors_free lane group seg may given others =
+      mirrors_after o h lane (Free group seg) new _ _ true refl refl may.loaded (record {
         within = λ tree u above.
-            none_in sets new 0 (allocating_of group.0) u others (λ n. m.within n u above)
-            (back u ∙ rw (covers_high seg u (omega (arith, may.within.within))) (m.within 0 u above))
-            (left u ∙ (ap (λ b. not (covers seg u) && b) (m.within (allocating_of group.0) u above) ∙ and-false (not (covers seg u)))) tree;
-        vacant = λ loaded u inside.
-            back u ∙ (ap (λ b. covers seg u || b) (m.vacant loaded u inside) ∙ busy_unalloc (covers seg u) (settled_group o h) (last_act o h u));
-        unloaded = λ idle u. absurd (same_not may.loaded idle);
-        gained = λ t u low high. gained_at t u low high (same_or t group.0);
-        given = λ t u low high. given_other t u (Unalloc group seg) low high refl (others (freeing_of t) u (λ e. omega arith) (λ e. omega arith));
-        deferred = λ t u low high. deferred_other t u (Unalloc group seg) low high refl (others (deferred_of t) u (λ e. omega arith) (λ e. omega arith));
+            none_in_one sets new (freeing_of group.0) u others (λ n. m.within n u above)
+            (given u ∙ rw (covers_high seg u (omega (arith, may.within.within))) (m.within (freeing_of group.0) u above)) tree;
+        vacant = λ _ u inside.
+            others 0 u (λ e. omega arith)
+            ∙ (m.vacant may.loaded u inside
+            ∙ ap not (busy_free (covers seg u) (settled_group o h) group.0 (last_act o h u) (omega (arith, later))
+            (λ c. live_busy (settled_group o h) (last_act o h u) (granted_by_live group.0 (last_act o h u) (may.live u (covers_true seg u c))))));
+        unloaded = λ idle u. absurd (cc);
+        gained = λ t u low high. others (allocating_of t) u (λ e. omega arith) ∙ m.gained t u low high;
+        given = λ t u low high.
+            by_group (λ n. new (freeing_of n) u ≡ (is_given n h u || gives n u act)) t group.0
+            (given u ∙ (ap (λ b. covers seg u || b) (m.given group.0 u later near) ∙ or_one (covers seg u) (group.0 == group.0) (is_given group.0 h u) (own_group group.0 group.0 refl)))
+            (λ e. given_other t u act low high (gives_quiet t u act (λ f. e (sym f)))
+            (others (freeing_of t) u (λ f. four_apart (settled_group o h) t group.0 low high later near e (omega arith))));
+        deferred = λ t u low high. deferred_other t u act low high (gives_quiet (t - 2) u act (λ e. omega (arith, later))) (others (deferred_of t) u (λ e. omega arith));
       }) where
-        near : group.0 ≤ collected_group o h + 4
-        near = omega (arith, may.open_group.near, order)
+        act : Act
+        act = Free group seg
 
-        own : (u : ℕ) → new (allocating_of group.0) u ≡ gained_by group.0 u (is_gained group.0 h u) (Unalloc group seg)
-        own u =
-            left u ∙ (ap (λ b. not (covers seg u) && b) (m.gained group.0 u may.open_group.above near)
-            ∙ without_one (covers seg u) (group.0 == group.0) (is_gained group.0 h u) (own_group group.0 group.0 refl))
+        later : settled_group o h < group.0
+        later = omega (arith, may.open_group.above, (order o h sets legal m))
 
-        gained_at : (t u : ℕ) → collected_group o h < t → t ≤ collected_group o h + 4 → (t ≡ group.0) ⊎ (t ≡ group.0 → ⊥)
-            → new (allocating_of t) u ≡ gained_by t u (is_gained t h u) (Unalloc group seg)
-        gained_at t u low high (inl e) = subst (λ n. new (allocating_of n) u ≡ gained_by n u (is_gained n h u) (Unalloc group seg)) (sym e) (own u)
-        gained_at t u low high (inr e) =
-            gained_other t u group.0 (Unalloc group seg) low high (λ f. e (sym f))
-            (others (allocating_of t) u (λ f. omega arith) (λ f. four_apart (collected_group o h) t group.0 low high may.open_group.above near e (omega arith)))
+        near : group.0 ≤ settled_group o h + 4
+        near = omega (arith, may.open_group.near)
 
   pub mirrors_collect : (lane : ℕ) (group : Group) → group.0 ≡ collected_group o h + 1
       → ((u : ℕ) → new (allocating_of group.0) u ≡ false) → OthersStay sets new (allocating_of group.0)
-      → Mirrors o (after_act h lane (Collect group)) new
+      → Mirrors o (noted h lane (Collect group)) new
   mirrors_collect lane group next empty others =
-      mirrors_after o h lane (Collect group) new (record {
+      mirrors_after o h lane (Collect group) new _ _ _ refl refl refl (record {
         within = λ tree u above. none_in_one sets new (allocating_of group.0) u others (λ n. m.within n u above) (empty u) tree;
         vacant = λ loaded u inside. others 0 u (λ e. omega arith) ∙ m.vacant loaded u inside;
         unloaded = λ idle u. others 0 u (λ e. omega arith) ∙ m.unloaded idle u;
@@ -286,12 +231,12 @@ module _ (o : Origin) (h : List Noted) (sets : Sets) (legal : IsLegal o h) (m : 
             ∙ m.gained t u (omega arith) near
         gained_at t u low high (inr far) =
             let same : allocating_of t ≡ allocating_of group.0 = omega arith in
-            ap (λ n. new n u) same ∙ (empty u ∙ sym (gained_far o h t u legal (omega (arith, order))))
+            ap (λ n. new n u) same ∙ (empty u ∙ sym (gained_far o h t u legal (omega (arith, (order o h sets legal m)))))
 
   pub mirrors_settle : (lane : ℕ) (group : Group) → group.0 ≡ settled_group o h + 1 → group.0 ≤ collected_group o h
-      → Settles (is_loaded h) sets new group.0 → Mirrors o (after_act h lane (Settle group)) new
+      → Settles (is_loaded h) sets new group.0 → Mirrors o (noted h lane (Settle group)) new
   mirrors_settle lane group next closed s =
-      mirrors_after o h lane (Settle group) new (record {
+      mirrors_after o h lane (Settle group) new _ _ _ refl refl refl (record {
         within = λ tree u above. within_at u above tree (same_or tree 0) (same_or tree (deferred_of group.0)) (same_or tree (freeing_of group.0));
         vacant = λ loaded u inside.
             s.vacant loaded u
@@ -334,9 +279,9 @@ module _ (o : Origin) (h : List Noted) (sets : Sets) (legal : IsLegal o h) (m : 
 
   pub mirrors_load : (lane : ℕ) → is_loaded h ≡ false
       → ((u : ℕ) → u < o.units → new 0 u ≡ is_vacant o h u) → ((u : ℕ) → o.units ≤ u → new 0 u ≡ false)
-      → OthersStay sets new 0 → Mirrors o (after_act h lane Load) new
+      → OthersStay sets new 0 → Mirrors o (noted h lane Load) new
   mirrors_load lane idle vacant above others =
-      mirrors_after o h lane Load new (record {
+      mirrors_after o h lane Load new _ _ _ refl refl refl (record {
         within = λ tree u past. none_in_one sets new 0 u others (λ n. m.within n u past) (above u past) tree;
         vacant = λ loaded u inside. vacant u inside;
         unloaded = λ none u. absurd (cc);
@@ -344,41 +289,3 @@ module _ (o : Origin) (h : List Noted) (sets : Sets) (legal : IsLegal o h) (m : 
         given = λ t u low high. given_other t u Load low high refl (others (freeing_of t) u (λ e. omega arith));
         deferred = λ t u low high. deferred_other t u Load low high refl (others (deferred_of t) u (λ e. omega arith));
       })
-
--- a group settles: what is deferred moves to the vacant units, or is dropped, and what was given back moves after it
-
-pub moved_apart : (from into : ℕ → Bool) → ((u : ℕ) → into u ≡ false) → AreDisjoint from into
-moved_apart from into empty = λ u h. empty u
-
-pub settles_loaded : (sets middle new : Sets) (group : ℕ)
-    → ((u : ℕ) → middle 0 u ≡ (sets (deferred_of group) u || sets 0 u)) → ((u : ℕ) → middle (deferred_of group) u ≡ false)
-    → OthersStayBut sets middle (deferred_of group) 0
-    → ((u : ℕ) → new (deferred_of group) u ≡ (middle (freeing_of group) u || middle (deferred_of group) u))
-    → ((u : ℕ) → new (freeing_of group) u ≡ false) → OthersStayBut middle new (freeing_of group) (deferred_of group)
-    → Settles true sets new group
-settles_loaded sets middle new group vacant empty stay deferred given others =
-    record {
-      vacant = λ _ u. others 0 u (λ e. omega arith) (λ e. omega arith) ∙ vacant u;
-      unloaded = λ none u. absurd (cc);
-      deferred = λ u. moved_to u (middle (freeing_of group) u) (middle (deferred_of group) u) (deferred u) (empty u) ∙ stay (freeing_of group) u (λ e. omega arith) (λ e. omega arith);
-      given = given;
-      others = λ tree u a b c. others tree u c b ∙ stay tree u b a;
-    } where
-      moved_to : (u : ℕ) (x y : Bool) → new (deferred_of group) u ≡ (x || y) → y ≡ false → new (deferred_of group) u ≡ x
-      moved_to u x y e f = e ∙ (ap (λ b. x || b) f ∙ or_false x)
-
-pub settles_unloaded : (sets middle new : Sets) (group : ℕ)
-    → ((u : ℕ) → middle (deferred_of group) u ≡ false) → OthersStay sets middle (deferred_of group)
-    → ((u : ℕ) → new (deferred_of group) u ≡ (middle (freeing_of group) u || middle (deferred_of group) u))
-    → ((u : ℕ) → new (freeing_of group) u ≡ false) → OthersStayBut middle new (freeing_of group) (deferred_of group)
-    → Settles false sets new group
-settles_unloaded sets middle new group empty stay deferred given others =
-    record {
-      vacant = λ none u. absurd (cc);
-      unloaded = λ _ u. others 0 u (λ e. omega arith) (λ e. omega arith) ∙ stay 0 u (λ e. omega arith);
-      deferred = λ u. moved_to u (middle (freeing_of group) u) (middle (deferred_of group) u) (deferred u) (empty u) ∙ stay (freeing_of group) u (λ e. omega arith);
-      given = given;
-      others = λ tree u a b c. others tree u c b ∙ stay tree u b;
-    } where
-      moved_to : (u : ℕ) (x y : Bool) → new (deferred_of group) u ≡ (x || y) → y ≡ false → new (deferred_of group) u ≡ x
-      moved_to u x y e f = e ∙ (ap (λ b. x || b) f ∙ or_false x)

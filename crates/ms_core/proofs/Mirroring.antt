@@ -1,18 +1,6 @@
 -- What the trees of a metaslab have, before an act changes them.
 use Rattle.std.proofs.Common.{◌≡◌, ℕ, ◌+◌, ◌-◌, ◌≤◌, ◌<◌, true, false, List, sym, ◌∙◌, ap, arith, ◌⊎◌, inl, inr}
-use Rattle.std.specs.Prelude.{not}
-use Rattle.zms_units.specs.declared.segments.Seg.{Seg}
-use Rattle.zms_units.proofs.UnitTests.{le_or, true_or_false}
-use Rattle.seg_trees.specs.Sets.{Sets, HoldsAll, HoldsNone, AreDisjoint}
-use Rattle.ms_model.specs.Origin.{Origin}
-use Rattle.ms_model.specs.Units.{last_act, settled_group, is_loaded}
-use Rattle.ms_model.specs.Spaces.{keeps_busy}
-use Rattle.ms_model.specs.Gains.{is_given}
-use Rattle.ms_model.specs.Legal.{MayGrant, MayFree, MayTakeBack, IsLegal}
-use Rattle.ms_model.specs.declared.notes.Noted.{Noted}
-use Rattle.ms_model.proofs.Overlaps.{settled_le_collected}
-use Rattle.ms_model.proofs.Changes.{last_gained, granted_by_live, vacant_not_gained, live_not_given, given_busy, open_settled}
-use Rattle.ms_core.specs.Mirrors.{Mirrors, allocating_of, freeing_of, deferred_of}
+use Rattle.ms_core.proofs.Words.{not, Seg, le_or, true_or_false, Sets, HoldsAll, HoldsNone, AreDisjoint, Origin, last_act, settled_group, is_loaded, keeps_busy, is_given, MayGrant, MayFree, MayTakeBack, IsLegal, Noted, settled_le_collected, last_gained, granted_by_live, vacant_not_gained, live_not_given, given_busy, open_settled, Mirrors, allocating_of, freeing_of, deferred_of}
 
 module _ (o : Origin) (h : List Noted) (sets : Sets) (legal : IsLegal o h) (m : Mirrors o h sets) where
   -- what may be granted is vacant, and the group gained none of it

@@ -1,16 +1,6 @@
 -- A set that has no unit at or above a range, asked over more units than the range.
-use Rattle.std.proofs.Common.{◌≡◌, ℕ, zero, suc, ◌+◌, ◌-◌, ◌≤◌, ◌<◌, Bool, true, false, cond, List, [], ◌∷◌, length, get_or, ◌*◌, refl, ◌∙◌, ap, arith, ◌⊎◌, inl, inr}
-use Rattle.zms_units.specs.declared.segments.Seg.{Seg}
-use Rattle.zms_units.specs.Segments.{end_of, AreRisingFrom}
-use Rattle.zms_units.specs.declared.places.Histogram.{Histogram}
-use Rattle.zms_units.specs.Weights.{IsHistogramOf}
-use Rattle.zms_units.specs.Runs.{units_in, begins_run, run_count, IsMaximalRun, IsLongFrom, IsFirstFrom, NoneFrom, IsBest, IsLargest, AreMaximalRuns}
-use Rattle.zms_units.proofs.UnitTests.{le_or, same_not}
-use Rattle.seg_trees.specs.Sets.{Sets, range as all_units, all_nodes, nodes_of}
-use Rattle.std.specs.List.{sum_by, range_with_len}
-use Rattle.std.proofs.lemmas.List.Sums.{sum_by-cons}
-use Rattle.zms_units.proofs.Counting.{units_le}
-use Rattle.ms_model.proofs.RunLooks.{units_more}
+use Rattle.std.proofs.Common.{◌≡◌, ℕ, zero, suc, ◌+◌, ◌-◌, ◌≤◌, ◌<◌, Bool, true, false, cond, List, [], ◌∷◌, length, get_or, refl, ◌∙◌, ap, arith, ◌⊎◌, inl, inr}
+use Rattle.ms_core.proofs.Words.{range-is, Seg, end_of, AreRisingFrom, Histogram, IsHistogramOf, units_in, begins_run, run_count, IsMaximalRun, AreMaximalRuns, le_or, same_not, all_units, nodes_of, units_le, units_more}
 
 bit_none : (b : Bool) → b ≡ false → ◌≡◌ {A = ℕ} (cond b 1 0) 0
 bit_none b e = rw e refl
@@ -70,46 +60,6 @@ module _ (set : ℕ → Bool) (range units : ℕ) (le : range ≤ units) (none :
             let some : 0 < run.count = m.some in
             absurd (same_not (m.inside (end_of run - 1) (omega arith, omega arith)) (none (end_of run - 1) (omega arith)))
 
-  pub maximal_up : (run : Seg) → IsMaximalRun set range run → IsMaximalRun set units run
-  maximal_up run m =
-      record {
-        some = m.some;
-        within = let w : end_of run ≤ range = m.within in omega arith;
-        inside = m.inside;
-        before = m.before;
-        after = λ l. by_end (le_or range (end_of run));
-      } where
-        by_end : (range ≤ end_of run) ⊎ (end_of run < range) → set (end_of run) ≡ false
-        by_end (inl far) = none (end_of run) far
-        by_end (inr l) = m.after l
-
-  long_down : (count at : ℕ) (run : Seg) → IsLongFrom set units count at run → IsLongFrom set range count at run
-  long_down count at run f = record { maximal = maximal_down run f.maximal; long = f.long; from = f.from }
-
-  long_up : (count at : ℕ) (run : Seg) → IsLongFrom set range count at run → IsLongFrom set units count at run
-  long_up count at run f = record { maximal = maximal_up run f.maximal; long = f.long; from = f.from }
-
-  pub first_down : (count at : ℕ) (run : Seg) → IsFirstFrom set units count at run → IsFirstFrom set range count at run
-  first_down count at run f = record { is_long = long_down count at run f.is_long; lowest = λ other g. f.lowest other (long_up count at other g) }
-
-  pub none_down : (count at : ℕ) → NoneFrom set units count at → NoneFrom set range count at
-  none_down count at f = λ run g. f run (long_up count at run g)
-
-  pub best_down : (count : ℕ) (run : Seg) → IsBest set units count run → IsBest set range count run
-  best_down count run f =
-      record {
-        is_long = long_down count 0 run f.is_long;
-        shortest = λ other g. f.shortest other (long_up count 0 other g);
-        lowest = λ other g e. f.lowest other (long_up count 0 other g) e;
-      }
-
-  pub largest_down : (largest : ℕ) → IsLargest set units largest → IsLargest set range largest
-  largest_down largest f =
-      record {
-        bounds = λ run m. f.bounds run (maximal_up run m);
-        met = λ some. let t = f.met some in (t.0, (maximal_down t.0 t.1.0, t.1.1));
-      }
-
   pub runs_down : (runs : List Seg) → AreMaximalRuns set units runs → AreMaximalRuns set range runs
   runs_down runs all =
       record {
@@ -123,24 +73,16 @@ module _ (set : ℕ → Bool) (range units : ℕ) (le : range ≤ units) (none :
 
 -- the trees' range
 pub range_le : (n : ℕ) → n ≤ 131072 → n ≤ all_units
-unfolding all_units
-range_le n h = h
+range_le n h = omega (arith, range-is)
 
 range_most : all_units ≤ 131072
-unfolding all_units
-range_most = omega arith
+range_most = omega (arith, range-is)
 
 -- the trees never have more nodes than this
 pub nodes_most : (set : ℕ → Bool) → nodes_of set ≤ 131072
 nodes_most set = omega (arith, range_most, units_le (begins_run set) all_units)
 
-one_longer : (x : ℕ) (xs : List ℕ) → length (x ∷ xs) ≡ length xs + 1
-one_longer x xs = omega arith
-
-sum_most : (f : ℕ → ℕ) → ((x : ℕ) → f x ≤ 131072) → (xs : List ℕ) → sum_by f xs ≤ length xs * 131072
-sum_most f most [] = omega arith
-sum_most f most (x ∷ xs) = omega (arith, sum_by-cons f x xs, most x, sum_most f most xs, one_longer x xs)
-
-pub all_nodes_most : (sets : Sets) → all_nodes sets ≤ 13 * 131072
-unfolding all_nodes
-all_nodes_most sets = sum_most (λ tree. nodes_of (sets tree)) (λ tree. nodes_most (sets tree)) (range_with_len 0 13)
+-- there are no more segments than units
+pub segs_few : (low high : ℕ) (segs : List Seg) → AreRisingFrom low high segs → low + length segs ≤ high
+segs_few low high [] a = omega arith
+segs_few low high (s ∷ ss) a = let l : low ≤ s.start = a.0 in let some : 0 < s.count = a.1.0 in omega (arith, segs_few (end_of s) high ss a.1.1)

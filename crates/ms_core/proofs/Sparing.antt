@@ -1,30 +1,19 @@
 -- The nodes that wait for a settle, as the trees change.
 use Rattle.std.proofs.Common.{◌≡◌, ℕ, zero, suc, ◌+◌, ◌≤◌, ◌<◌, ◌%◌, Bool, false, refl, sym, ap, ◌∙◌, subst, arith}
-use Rattle.std.specs.Prelude.{◌||◌, ◌&&◌, not, Result, Ok, Err, OnOk}
-use Rattle.zms_units.specs.declared.segments.Seg.{Seg}
-use Rattle.zms_units.specs.Segments.{covers}
-use Rattle.zms_units.specs.Runs.{has_before, begins_run}
-use Rattle.zms_units.proofs.Counting.{units_same, units_none}
-use Rattle.seg_trees.specs.Sets.{range as all_units, Sets, nodes_of, IsSegment, OthersStay}
-use Rattle.seg_trees.proofs.Nodes.{nodes_of_add}
-use Rattle.ms_core.specs.Mirrors.{freeing_of, Settles}
-use Rattle.ms_core.specs.Kept.{waiting_nodes}
+use Rattle.ms_core.proofs.Words.{◌||◌, ◌&&◌, not, Result, Ok, Err, OnOk, Seg, covers, has_before, begins_run, units_none, all_units, Sets, nodes_of, all_nodes, IsSegment, AllStay, OthersStay, nodes_of_add, freeing_of, Settles, waiting_nodes}
 use Rattle.ms_core.proofs.Narrowing.{nodes_most}
 
 -- sets of the same units have the same nodes
 
-before_same : (p q : ℕ → Bool) → ((u : ℕ) → p u ≡ q u) → (u : ℕ) → has_before p u ≡ has_before q u
-before_same p q same zero = refl
-before_same p q same (suc u) = same u
-
-begins_same : (p q : ℕ → Bool) → ((u : ℕ) → p u ≡ q u) → (u : ℕ) → begins_run p u ≡ begins_run q u
-begins_same p q same u = ap (λ b. b && not (has_before p u)) (same u) ∙ ap (λ b. q u && not b) (before_same p q same u)
-
 nodes_same : (p q : ℕ → Bool) → ((u : ℕ) → p u ≡ q u) → nodes_of p ≡ nodes_of q
-nodes_same p q same = units_same (begins_run p) (begins_run q) all_units (begins_same p q same)
+nodes_same p q same = let e : p ≡ q = λ i u. same u i in ap nodes_of e
 
 nodes_none : (p : ℕ → Bool) → ((u : ℕ) → p u ≡ false) → nodes_of p ≡ 0
 nodes_none p none = units_none (begins_run p) all_units (λ u. ap (λ b. b && not (has_before p u)) (none u))
+
+-- trees that stay have the same nodes
+pub nodes_stay : (sets new : Sets) → AllStay sets new → all_nodes new ≡ all_nodes sets
+nodes_stay sets new stay = let same : new ≡ sets = λ i tree u. stay tree u i in ap all_nodes same
 
 -- trees of no units have none
 pub waiting_none : (sets : Sets) → ((tree u : ℕ) → sets tree u ≡ false) → waiting_nodes sets ≡ 0

@@ -1,21 +1,16 @@
 -- What a look through a segment finds.
-use Rattle.std.specs.Prelude.{ℕ, ◌+◌, ◌<◌, ◌≤◌, Bool, List, Option, IfSome, IfNone}
+use Rattle.std.specs.Prelude.{ℕ, ◌+◌, ◌≤◌, Bool, List, Option, IfSome, IfNone}
 use Rattle.std.specs.List.{list_any}
 use Rattle.zms_units.specs.declared.segments.Seg.{Seg}
-use Rattle.zms_units.specs.Segments.{Covers}
 use Rattle.ms_model.specs.declared.notes.Act.{Act}
 use Rattle.ms_model.specs.declared.notes.Act.TheVariants.{Settle}
 use Rattle.seg_trees.specs.Sets.{Sets, HoldsNone, IsLowest}
-
--- a unit is the lowest of a segment of which something does not hold
-pub record IsLowestLacking (Has : ℕ → Type 0) (seg : Seg) (unit : ℕ) : Type 0 where
-  pub inside : Covers seg unit
-  pub lacks : Has unit → ⊥
-  pub below : (u : ℕ) → Covers seg u → u < unit → Has u
+use Rattle.ms_core.specs.declared.tree.Tree.{Tree}
+use Rattle.ms_core.specs.Mirrors.{number_of}
 
 -- is a unit in one of these trees?
-abbrev pub in_any : Sets → List ℕ → ℕ → Bool
-in_any sets trees u = list_any (λ tree. sets tree u) trees
+abbrev pub in_any : Sets → List Tree → ℕ → Bool
+in_any sets trees u = list_any (λ tree. sets (number_of tree) u) trees
 
 -- the lowest unit of a segment that is in a set, if there is one
 abbrev pub Finds : (ℕ → Bool) → Seg → Option ℕ → Type 0

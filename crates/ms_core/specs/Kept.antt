@@ -1,11 +1,12 @@
 -- What a metaslab keeps of itself beside its journal, and how the two agree.
 use Rattle.std.specs.Prelude.{◌≡◌, ℕ, ◌+◌, ◌-◌, ◌/◌, ◌<◌, ◌≤◌, ◌≢◌, Bool, true, None, List, min, slice_index}
+use Rattle.zms_units.specs.Limits.{IsShift, MAX_UNITS}
 use Rattle.std.specs.List.{All}
 use Rattle.std.specs.Vec.{vec_len, vec_capacity}
 use Rattle.zms_units.specs.declared.segments.Seg.{Seg}
 use Rattle.zms_units.specs.Segments.{covered, AreSegs}
 use Rattle.zms_units.specs.Runs.{units_in}
-use Rattle.seg_trees.specs.Sets.{Sets, nodes_of}
+use Rattle.seg_trees.specs.Sets.{Sets, nodes_of, all_nodes}
 use Rattle.ms_model.specs.Origin.{Origin}
 use Rattle.ms_model.specs.Units.{settled_group, collected_group, is_loaded, worker_at}
 use Rattle.ms_model.specs.Cursors.{cursor_at}
@@ -14,7 +15,7 @@ use Rattle.ms_model.specs.Legal.{IsLegal}
 use Rattle.ms_model.specs.declared.notes.Act.TheVariants.{Unload}
 use Rattle.ms_model.specs.declared.notes.Noted.{Noted}
 use Rattle.ms_core.specs.Mirrors.{Mirrors}
-use Rattle.ms_core.specs.State.{MsState}
+use Rattle.ms_core.specs.State.{MsState, AreOfLanes}
 use Rattle.ms_core.specs.declared.metaslab.Metaslab.TheInside.{Inside}
 
 -- how many nodes the trees have of what is given back and not vacant yet
@@ -29,7 +30,7 @@ action_room set spare m = min ((vec_capacity m.notes - (vec_len m.notes + (m.col
 -- what contracts see
 abbrev pub state_in : {R : Type 0} → (R → Sets) → (R → ℕ) → Inside R → MsState
 state_in set spare m =
-    record { id = m.id; units = m.units; ashift = m.ashift; opened = m.opened.0; base = m.base.items; notes = m.notes.items; room = action_room set spare m }
+    record { id = m.id; units = m.units; ashift = m.ashift; opened = m.opened.0; base = m.base.items; notes = m.notes.items; room = action_room set spare m; memory = record { notes = vec_capacity m.notes; nodes = spare m.trees + all_nodes (set m.trees); base = vec_capacity m.base } }
 
 -- what is kept, as numbers and lists
 pub record Book : Type 0 where
@@ -52,15 +53,17 @@ book_in m = record { units = m.units; ashift = m.ashift; opened = m.opened.0; ba
 abbrev pub origin_in : Book → Origin
 origin_in m = record { units = m.units; ashift = m.ashift; opened = m.opened; base = covered m.base }
 
--- the journal is legal, no worker came and free space was never given up, and what else is kept says the same as the journal
+-- the journal is legal, each note is of a lane, no worker came and free space was never given up, and what else is kept says
+-- the same as the journal
 pub record IsKept (sets : Sets) (m : Book) : Type 0 where
   pub least : 64 ≤ m.units
-  pub most : m.units ≤ 131072
-  pub shift : (9 ≤ m.ashift) × (m.ashift ≤ 12)
+  pub most : m.units ≤ MAX_UNITS
+  pub shift : IsShift m.ashift
   pub base : AreSegs m.units m.base
   pub legal : IsLegal (origin_in m) m.notes
   pub enabled : worker_at m.notes ≡ None
   pub stays : All (λ (note : Noted). note.act ≢ Unload) m.notes
+  pub lanes : AreOfLanes m.notes
   pub collected : m.collected ≡ collected_group (origin_in m) m.notes
   pub settled : m.settled ≡ settled_group (origin_in m) m.notes
   pub order : m.settled ≤ m.collected

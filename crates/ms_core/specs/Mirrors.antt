@@ -1,11 +1,16 @@
 -- How the trees of a metaslab say what its journal says.
-use Rattle.std.specs.Prelude.{◌≡◌, ℕ, ◌+◌, ◌-◌, ◌%◌, ◌<◌, ◌≤◌, ◌||◌, Bool, true, false, List}
+use Rattle.std.specs.Prelude.{◌≡◌, ℕ, ◌+◌, ◌-◌, ◌%◌, ◌<◌, ◌≤◌, ◌||◌, Bool, true, false, nat_le, if◌then◌else◌, Option, Some, None, List}
 use Rattle.seg_trees.specs.Sets.{Sets}
 use Rattle.ms_model.specs.Origin.{Origin}
 use Rattle.ms_model.specs.Units.{settled_group, collected_group, is_loaded}
 use Rattle.ms_model.specs.Spaces.{is_vacant}
 use Rattle.ms_model.specs.Gains.{is_gained, is_given}
 use Rattle.ms_model.specs.declared.notes.Noted.{Noted}
+use Rattle.zms_units.specs.declared.segments.Group.{Group}
+use Rattle.ms_core.specs.declared.tree.Change.{Change}
+use Rattle.ms_core.specs.declared.tree.Change.TheVariants.{Gained, Given}
+use Rattle.ms_core.specs.declared.tree.Tree.{Tree}
+use Rattle.ms_core.specs.declared.tree.Tree.TheVariants.{Allocatable, Allocating, Freeing, Deferred}
 
 -- the trees of what a group gained, of what it gave back, and of what it gave back once it is settled
 abbrev pub allocating_of : ℕ → ℕ
@@ -16,6 +21,23 @@ freeing_of group = 5 + group % 4
 
 abbrev pub deferred_of : ℕ → ℕ
 deferred_of group = 9 + group % 2
+
+-- the number of a tree
+abbrev pub number_of : Tree → ℕ
+number_of Allocatable = 0
+number_of (Allocating group) = allocating_of group.0
+number_of (Freeing group) = freeing_of group.0
+number_of (Deferred group) = deferred_of group.0
+
+-- the units that a group gained, or gave back
+abbrev pub is_changed : Change → ℕ → List Noted → ℕ → Bool
+is_changed Gained t h u = is_gained t h u
+is_changed Given t h u = is_given t h u
+
+-- the tree of what the next group gained, or gave back, where it may have given something back
+abbrev pub tree_of : Change → Group → ℕ → Option Tree
+tree_of Gained group settled = Some (Allocating group)
+tree_of Given group settled = if nat_le group.0 (settled + 3) then Some (Freeing group) else None
 
 -- while the metaslab is loaded the first tree is what is vacant; four groups above the collected one have a tree of what they
 -- gained, four above the settled one a tree of what they gave back, and the two that settle next a tree of what is vacant then

@@ -1,6 +1,6 @@
 -- What a metaslab weighs.
 use Rattle.std.specs.Prelude.{ℕ, Bool, nat_lt, List}
-use Rattle.zms_units.specs.declared.places.Histogram.{Histogram}
+use Rattle.zms_units.specs.declared.histograms.Histogram.{Histogram}
 use Rattle.zms_units.specs.Weights.{IsHistogramOf, IsWeightOf}
 use Rattle.ms_model.specs.Origin.{Origin}
 use Rattle.ms_model.specs.Counts.{vacant_units}

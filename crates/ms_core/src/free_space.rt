@@ -1,18 +1,17 @@
 ghost use Rattle.std.specs.Prelude.{◌≡◌, ℕ, ◌≤◌, false};
+ghost use Rattle.zms_units.specs.Limits.{MAX_UNITS};
 
 use crate::stepping;
+use crate::tree::Tree;
 use seg_trees::SegTrees;
-use zms_units::{FreeRuns, MAX_UNITS, Seg};
-
-/// The tree of what may be handed out.
-pub(crate) const ALLOCATABLE: u8 = 0;
+use zms_units::{FreeRuns, Seg};
 
 /// The units of a metaslab that may be handed out, as the fit asks for them.
 #[derive(Drop)]
 pub(crate) struct FreeSpace<'a, R: SegTrees> {
     trees: &'a R,
     range: u32,
-    ghost most: { range ≤ 131072 },
+    ghost most: { range ≤ MAX_UNITS },
     ghost within: { (u : ℕ) → range ≤ u → R.set trees.now 0 u ≡ false },
 }
 
@@ -36,18 +35,18 @@ impl<'a, R: SegTrees> FreeRuns for FreeSpace<'a, R> {
     }
 
     fn units(&self) -> u32 {
-        self.trees.units(ALLOCATABLE)
+        stepping::units(self.trees, Tree::Allocatable)
     }
 
     fn largest(&self) -> u32 {
-        self.trees.largest(ALLOCATABLE)
+        self.trees.largest(Tree::Allocatable.number())
     }
 
     fn first_from(&self, count: u32, at: u32) -> Option<Seg> {
-        stepping::first_from(self.trees, ALLOCATABLE, count, at)
+        stepping::first_from(self.trees, Tree::Allocatable, count, at)
     }
 
     fn best(&self, count: u32) -> Option<Seg> {
-        stepping::best(self.trees, ALLOCATABLE, count)
+        stepping::best(self.trees, Tree::Allocatable, count)
     }
 }

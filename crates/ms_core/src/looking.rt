@@ -1,16 +1,16 @@
 //! Which units of a segment are not what their giver back takes them for.
 ghost use Rattle.std.specs.Prelude.{◌≡◌, ℕ, ◌+◌, ◌<◌, ◌≤◌, ◌||◌, Bool, true, false, Some, IfSome, IfNone, IsTrue};
-ghost use Rattle.std.specs.List.{All};
 ghost use Rattle.zms_units.specs.Segments.{end_of, covers, Covers};
 ghost use Rattle.seg_trees.specs.Sets.{IsSegment};
 ghost use Rattle.ms_model.specs.Origin.{Origin};
 ghost use Rattle.ms_model.specs.Units.{LastAct, granted, act_on, last_act};
-ghost use Rattle.ms_model.specs.Legal.{IsLegal};
-ghost use Rattle.ms_core.specs.Asked.{Finds, in_any, IsLowestLacking, IsSettleBefore};
+ghost use Rattle.ms_model.specs.Legal.{IsLegal, IsLowestLacking};
+ghost use Rattle.ms_core.specs.Asked.{Finds, in_any, IsSettleBefore};
 
 use crate::stepping;
+use crate::tree::Tree;
 use ms_model::{Act, Noted};
-use seg_trees::{SegTrees, TREES};
+use seg_trees::SegTrees;
 use zms_units::{Group, MAX_UNITS, Seg};
 
 /// The lower of two units, where there is one.
@@ -25,8 +25,7 @@ pub(crate) fn lower(one: Option<u32>, other: Option<u32>, seg: Seg) -> Option<u3
 }
 
 /// The lowest unit of a segment that is in one of these trees.
-pub(crate) fn lowest_in<R: SegTrees>(trees: &R, names: &[u8], seg: Seg) -> Option<u32>
-    requires names { All (λ tree. tree < 13) names.now }
+pub(crate) fn lowest_in<R: SegTrees>(trees: &R, names: &[Tree], seg: Seg) -> Option<u32>
     requires segment { IsSegment seg }
     ensures { Finds (in_any (R.set trees.now) names.now) seg result }
 {

@@ -1,27 +1,28 @@
 ghost use Rattle.std.specs.Prelude.{◌≡◌, ℕ, ◌+◌, ◌*◌, ◌^◌, ◌<◌, ◌≤◌, ◌==◌, ◌↔◌, if◌then◌else◌, slice_index, true, false, [], Some, IsTrue, OnOk, OnErr, IfOk, IfErr, IfSome, IfNone, IsOk};
+ghost use Rattle.zms_units.specs.Limits.{IsLane, IsPoolGroup, IsShift, IsUnitCount};
 ghost use Rattle.std.specs.Vec.{vec_len, vec_capacity};
 ghost use Rattle.zms_units.specs.Cursors.{cursor_of};
 ghost use Rattle.zms_units.specs.Segments.{end_of, covered, Covers, AreSegs};
 ghost use Rattle.zms_units.specs.Runs.{units_in, run_count, AreMaximalRuns};
 ghost use Rattle.zms_units.specs.Weights.{IsHistogramOf};
-ghost use Rattle.seg_trees.specs.Sets.{AreDisjoint};
+ghost use Rattle.seg_trees.specs.Sets.{AllStay, AreDisjoint, TakesNone};
 ghost use Rattle.ms_model.specs.Units.{granted, held as holds, is_loaded, last_act};
 ghost use Rattle.ms_model.specs.Spaces.{is_vacant};
 ghost use Rattle.ms_model.specs.Counts.{live_units, deferred_units, vacant_units};
 ghost use Rattle.ms_model.specs.Gains.{is_gained, is_given};
-ghost use Rattle.ms_model.specs.Legal.{IsLegal, IsWithin, IsOpenGroup, IsGrantedBy, MayGrant, MayMiss, MayFree, MayTakeBack};
+ghost use Rattle.ms_model.specs.Legal.{IsLegal, IsWithin, IsOpenGroup, IsGrantedBy, MayGrant, MayMiss, MayFree, MayTakeBack, IsLowestLacking};
 ghost use Rattle.ms_model.specs.Laws.{IsFreeOfAll};
 ghost use Rattle.ms_model.specs.declared.notes.Act.TheVariants.{Grant, Free, Unalloc, Miss, Collect, Settle, Load};
-ghost use Rattle.ms_core.specs.State.{origin_of, settled_of, collected_of, noted, StaysButNotes, StaysButRoom};
+ghost use Rattle.ms_core.specs.State.{origin_of, settled_of, collected_of, noted, AreOfLanes, StaysButNotes, StaysButRoom, HasMore};
 ghost use Rattle.ms_core.specs.Buffers.{run_room, changed_runs};
 ghost use Rattle.ms_core.specs.Kept.{waiting_nodes};
-ghost use Rattle.ms_core.specs.Mirrors.{Settles, allocating_of, freeing_of, deferred_of};
-ghost use Rattle.ms_core.specs.Asked.{IsLowestLacking};
+ghost use Rattle.ms_core.specs.Mirrors.{Settles, deferred_of, is_changed, tree_of};
 ghost use Rattle.ms_core.specs.Weights.{IsWeightOfSet, as_one_run};
 
-use crate::free_space::{ALLOCATABLE, FreeSpace};
+use crate::free_space::FreeSpace;
 use crate::looking::{first_foreign, lower, lowest_in};
-use crate::walking::{add_gaps, one_run, push_runs, unit_count};
+use crate::tree::{Change, Tree};
+use crate::walking::{add_gaps, one_run, push_runs};
 use crate::{Counts, MsFault, RunBuf, stepping};
 use fit_rule::fit;
 use ms_model::{Act, MsJournal, Noted};
@@ -29,20 +30,17 @@ use ms_weight::weight_of;
 use seg_trees::SegTrees;
 use std::alloc::{AllocError, Global};
 use std::marker::Model;
-use zms_units::{Group, Histogram, Items, MAX_UNITS, MsId, Seg, VdevRow};
-
-/// The trees of the units that are not handed out: vacant, freed or deferred.
-const NOT_HANDED_OUT: [u8; 7] = [0, 5, 6, 7, 8, 9, 10];
+use zms_units::{
+    CURSORS, Group, Histogram, Items, MAX_UNITS, MsId, Seg, VdevRow, cursor_place, unit_count,
+};
 
 /// The notes for which a new metaslab takes memory.
 const FIRST_NOTES: usize = 16;
 
 /// A metaslab, after `metaslab_t`: a range of a vdev, its journal, and what makes each action on it quick.
 ///
-/// Tree 0 is its vacant units while it is loaded, and empty before: `ms_allocatable`. Trees 1 to 4 are what the groups
-/// above the collected one gained, by group modulo 4: `ms_allocating`. Trees 5 to 8 are what the groups above the settled
-/// one gave back, by group modulo 4: `ms_freeing` and `ms_freed`. Trees 9 and 10 are what the last two settled groups gave
-/// back, by group modulo 2: `ms_defer`.
+/// Its trees are its vacant units, while it is loaded; what each of four groups above the collected one gained; what each
+/// of four above the settled one gave back; and what is vacant from each of the next two settles on.
 #[derive(Debug, Drop)]
 pub struct Metaslab<R: SegTrees> {
     id: MsId,
@@ -54,7 +52,7 @@ pub struct Metaslab<R: SegTrees> {
     loaded: bool,
     trees: R,
     // While it is loaded, where the last grant ended whose count has its lowest set bit at this place: `ms_lbas`.
-    cursors: [u32; 18],
+    cursors: [u32; CURSORS],
     collected: Group,
     settled: Group,
     // How many units the base holds, and how many are handed out, and freed but not vacant yet.
@@ -86,46 +84,44 @@ fn push_note(notes: &mut Vec<Noted>, lane: u8, act: Act)
 }
 
 /// Sets the cursor of a segment's count to the segment's end.
-#[tactic(auto, using(crate::proofs::Cursors::cursor_within))]
-fn move_cursor(cursors: &mut [u32; 18], seg: Seg)
+fn move_cursor(cursors: &mut [u32; CURSORS], seg: Seg)
     requires count { (1 ≤ seg.count) × (seg.count ≤ MAX_UNITS) }
     requires within { end_of seg ≤ MAX_UNITS }
     ensures { (number : ℕ) → number < 18 → slice_index cursors.new number ≡ (if cursor_of seg.count == number then end_of seg else slice_index cursors.old number) }
 {
-    cursors[seg.count.trailing_zeros() as usize] = seg.start + seg.count;
-}
-
-/// The tree of what a group gained.
-fn allocating_tree(group: Group) -> u8
-    ensures { result ≡ allocating_of group.0 }
-{
-    1 + (group.0 % 4) as u8
-}
-
-/// The tree of what a group gave back, until it is settled.
-fn freeing_tree(group: Group) -> u8
-    ensures { result ≡ freeing_of group.0 }
-{
-    5 + (group.0 % 4) as u8
-}
-
-/// The tree of what a group gave back, from its settle to the second one after it.
-fn deferred_tree(group: Group) -> u8
-    ensures { result ≡ deferred_of group.0 }
-{
-    9 + (group.0 % 2) as u8
+    cursors[cursor_place(seg.count)] = seg.start + seg.count;
 }
 
 /// How many nodes the trees have of what is given back and not vacant yet.
 fn waiting_nodes<R: SegTrees>(trees: &R) -> u32
     ensures { result ≡ waiting_nodes (R.set trees.now) }
 {
-    trees.nodes(5)
-        + trees.nodes(6)
-        + trees.nodes(7)
-        + trees.nodes(8)
-        + trees.nodes(9)
-        + trees.nodes(10)
+    stepping::nodes(trees, Tree::Freeing(Group(0)))
+        + stepping::nodes(trees, Tree::Freeing(Group(1)))
+        + stepping::nodes(trees, Tree::Freeing(Group(2)))
+        + stepping::nodes(trees, Tree::Freeing(Group(3)))
+        + stepping::nodes(trees, Tree::Deferred(Group(0)))
+        + stepping::nodes(trees, Tree::Deferred(Group(1)))
+}
+
+/// Takes the memory for so many further notes, and for so many nodes beside those that wait for a settle.
+fn reserve<R: SegTrees>(
+    notes: &mut Vec<Noted>,
+    trees: &mut R,
+    further: usize,
+    nodes: u32,
+) -> Result<(), AllocError>
+    requires { nodes ≤ MAX_UNITS + 2 }
+    ensures items { notes.new.items ≡ notes.old.items }
+    ensures len { vec_len notes.new ≡ vec_len notes.old }
+    ensures capacity { vec_capacity notes.old ≤ vec_capacity notes.new }
+    ensures enough { OnOk result ((vec_len notes.new + further ≤ vec_capacity notes.new) × (waiting_nodes (R.set trees.new) + nodes ≤ R.spare trees.new)) }
+    ensures spare { R.spare trees.old ≤ R.spare trees.new }
+    ensures stay { AllStay (R.set trees.old) (R.set trees.new) }
+{
+    notes.reserve(further)?;
+    let waiting = waiting_nodes(trees);
+    trees.reserve(waiting + nodes)
 }
 
 /// What a settle does to the trees: what was deferred until now is vacant, or let go where free space is not in memory,
@@ -134,13 +130,14 @@ fn settle_trees<R: SegTrees>(trees: &mut R, group: Group, loaded: bool)
     requires { AreDisjoint (R.set trees.old (deferred_of group.0)) (R.set trees.old 0) }
     ensures moves { Settles loaded (R.set trees.old) (R.set trees.new) group.0 }
     ensures spare { R.spare trees.old ≤ R.spare trees.new }
+    ensures memory { TakesNone (R.spare trees.old) (R.set trees.old) (R.spare trees.new) (R.set trees.new) }
 {
     if loaded {
-        trees.vacate(deferred_tree(group), ALLOCATABLE);
+        stepping::vacate(trees, Tree::Deferred(group), Tree::Allocatable);
     } else {
-        trees.clear(deferred_tree(group));
+        stepping::clear(trees, Tree::Deferred(group));
     }
-    trees.vacate(freeing_tree(group), deferred_tree(group));
+    stepping::vacate(trees, Tree::Freeing(group), Tree::Deferred(group));
 }
 
 impl<R: SegTrees> Metaslab<R> {
@@ -154,9 +151,9 @@ impl<R: SegTrees> Metaslab<R> {
         opened: Group,
         base: Vec<Seg>,
     ) -> Result<Self, Vec<Seg>>
-        requires units { (64 ≤ row.now.units) × (row.now.units ≤ MAX_UNITS) }
-        requires ashift { (9 ≤ row.now.ashift) × (row.now.ashift ≤ 12) }
-        requires opened { (4 ≤ opened.0) × (opened.0 < 2 ^ 49) }
+        requires units { IsUnitCount row.now.units }
+        requires ashift { IsShift row.now.ashift }
+        requires opened { IsPoolGroup opened.0 }
         requires base { AreSegs row.now.units base.items }
         ensures id { IfOk result (λ metaslab. metaslab.id ≡ id) }
         ensures units { IfOk result (λ metaslab. metaslab.units ≡ row.now.units) }
@@ -169,7 +166,7 @@ impl<R: SegTrees> Metaslab<R> {
         let Ok(notes) = Vec::with_capacity(alloc, FIRST_NOTES) else {
             return Err(base);
         };
-        let held = unit_count(&base, row.units);
+        let held = unit_count(&base);
         Ok(Metaslab {
             id,
             units: row.units,
@@ -179,7 +176,7 @@ impl<R: SegTrees> Metaslab<R> {
             notes,
             loaded: false,
             trees: R::new(alloc),
-            cursors: [0; 18],
+            cursors: [0; CURSORS],
             collected: opened,
             settled: opened,
             held,
@@ -188,16 +185,85 @@ impl<R: SegTrees> Metaslab<R> {
         })
     }
 
-    /// Takes the memory for one action and its note; before a collect, for the note of its settle too.
+    /// Takes the memory for one action and its note; before a collect, for the note of its settle too. In the trees it takes
+    /// a node for each of the two runs that an action may add, and one for each run that was freed and waits for a settle, so
+    /// that `settle` takes none. Costs the nodes taken.
     pub fn ready(&mut self) -> Result<(), AllocError>
         ensures ok { OnOk result (0 < self.new.room) }
         ensures room { self.old.room ≤ self.new.room }
+        ensures memory { HasMore self.old self.new }
         ensures stays { StaysButRoom self.old self.new }
     {
         let unsettled = (self.collected.0 - self.settled.0) as usize;
-        self.notes.reserve(unsettled + 2)?;
-        let waiting = waiting_nodes(&self.trees);
-        self.trees.reserve(waiting + 2)
+        reserve(&mut self.notes, &mut self.trees, unsettled + 2, 2)
+    }
+
+    /// Does it take changes of this group? `Late` where the group was collected, else `NotLoaded`.
+    fn admit(&self, group: Group) -> Result<(), MsFault>
+        ensures late { group.0 ≤ collected_of self.now → result ≡ Err (MsFault.Late group (record { 0 = collected_of self.now })) }
+        ensures not_loaded { collected_of self.now < group.0 → is_loaded self.now.notes ≡ false → result ≡ Err MsFault.NotLoaded }
+        ensures refused { OnErr result (collected_of self.now < group.0 → is_loaded self.now.notes ≡ true → ⊥) }
+        ensures above { OnOk result (collected_of self.now < group.0) }
+        ensures loaded { OnOk result (is_loaded self.now.notes ≡ true) }
+    {
+        if group.0 <= self.collected.0 {
+            return Err(MsFault::Late {
+                group,
+                collected: self.collected,
+            });
+        }
+        if !self.loaded {
+            return Err(MsFault::NotLoaded);
+        }
+        Ok(())
+    }
+
+    /// The units that a grant of this group would take.
+    fn fitting(&self, group: Group, count: u32) -> Option<Seg>
+        requires loaded { is_loaded self.now.notes ≡ true }
+        requires group { IsOpenGroup (origin_of self.now) self.now.notes group.0 }
+        requires count { (1 ≤ count) × (count ≤ MAX_UNITS) }
+        ensures count { IfSome result (λ seg. seg.count ≡ count) }
+        ensures may { IfSome result (MayGrant (origin_of self.now) self.now.notes group.0) }
+        ensures free { IfSome result (λ seg. (u : ℕ) → Covers seg u → IsFreeOfAll (origin_of self.now) self.now.notes u) }
+        ensures none { IfNone result (MayMiss (origin_of self.now) self.now.notes count) }
+    {
+        let free = FreeSpace::new(&self.trees, self.units);
+        fit(&free, self.ashift, &self.cursors, count)
+    }
+
+    /// Hands out units that a grant may take.
+    fn hand_out(&mut self, lane: u8, group: Group, seg: Seg)
+        requires lane { IsLane lane }
+        requires may { MayGrant (origin_of self.old) self.old.notes group.0 seg }
+        requires room { 0 < self.old.room }
+        ensures note { self.new.notes ≡ noted self.old.notes lane (Grant group seg) }
+        ensures stays { StaysButNotes self.old self.new }
+        ensures room { self.old.room ≤ self.new.room + 1 }
+        ensures memory { self.new.memory ≡ self.old.memory }
+    {
+        stepping::move_seg(
+            &mut self.trees,
+            Tree::Allocatable,
+            Tree::Allocating(group),
+            seg,
+        );
+        move_cursor(&mut self.cursors, seg);
+        self.live += seg.count;
+        push_note(&mut self.notes, lane, Act::Grant { group, seg });
+    }
+
+    /// Notes that so many units in a row are not to be had.
+    fn miss(&mut self, lane: u8, count: u32)
+        requires lane { IsLane lane }
+        requires may { MayMiss (origin_of self.old) self.old.notes count }
+        requires room { 0 < self.old.room }
+        ensures note { self.new.notes ≡ noted self.old.notes lane (Miss count) }
+        ensures stays { StaysButNotes self.old self.new }
+        ensures room { self.old.room ≤ self.new.room + 1 }
+        ensures memory { self.new.memory ≡ self.old.memory }
+    {
+        push_note(&mut self.notes, lane, Act::Miss { count });
     }
 
     /// Hands out `count` units in a row, in this group, as `metaslab_block_alloc` does with `metaslab_df_alloc`: the first
@@ -211,7 +277,7 @@ impl<R: SegTrees> Metaslab<R> {
     /// `Late` where the group was collected, else `NotLoaded` where free space is not in memory. Takes no memory. Costs
     /// at most seven calls on the trees.
     pub fn grant(&mut self, lane: u8, group: Group, count: u32) -> Result<Option<Seg>, MsFault>
-        requires lane { (1 ≤ lane) × (lane ≤ 16) }
+        requires lane { IsLane lane }
         requires group { group.0 ≤ settled_of self.old + 3 }
         requires count { (1 ≤ count) × (count ≤ MAX_UNITS) }
         requires room { 0 < self.old.room }
@@ -232,26 +298,15 @@ impl<R: SegTrees> Metaslab<R> {
         ensures miss_note { IfOk result (λ answer. IfNone answer (self.new.notes ≡ noted self.old.notes lane (Miss count))) }
         ensures stays { StaysButNotes self.old self.new }
         ensures room { self.old.room ≤ self.new.room + 1 }
+        ensures memory { self.new.memory ≡ self.old.memory }
         ensures err { OnErr result (self.new ≡ self.old) }
     {
-        if group.0 <= self.collected.0 {
-            return Err(MsFault::Late {
-                group,
-                collected: self.collected,
-            });
-        }
-        if !self.loaded {
-            return Err(MsFault::NotLoaded);
-        }
-        let free = FreeSpace::new(&self.trees, self.units);
-        let Some(seg) = fit(&free, self.ashift, &self.cursors, count) else {
-            push_note(&mut self.notes, lane, Act::Miss { count });
+        self.admit(group)?;
+        let Some(seg) = self.fitting(group, count) else {
+            self.miss(lane, count);
             return Ok(None);
         };
-        stepping::move_seg(&mut self.trees, ALLOCATABLE, allocating_tree(group), seg);
-        move_cursor(&mut self.cursors, seg);
-        self.live += count;
-        push_note(&mut self.notes, lane, Act::Grant { group, seg });
+        self.hand_out(lane, group, seg);
         Ok(Some(seg))
     }
 
@@ -263,15 +318,42 @@ impl<R: SegTrees> Metaslab<R> {
         ensures found { IfSome result (IsLowestLacking (λ u. IsGrantedBy group.0 (last_act (origin_of self.now) self.now.notes u)) seg) }
         ensures none { IfNone result ((u : ℕ) → Covers seg u → IsGrantedBy group.0 (last_act (origin_of self.now) self.now.notes u)) }
     {
+        // Vacant, freed or deferred.
+        let not_handed_out = [
+            Tree::Allocatable,
+            Tree::Freeing(Group(0)),
+            Tree::Freeing(Group(1)),
+            Tree::Freeing(Group(2)),
+            Tree::Freeing(Group(3)),
+            Tree::Deferred(Group(0)),
+            Tree::Deferred(Group(1)),
+        ];
+        // Handed out in a later group, of which so many are open.
         let later = [
-            1 + ((group.0 % 4 + 1) % 4) as u8,
-            1 + ((group.0 % 4 + 2) % 4) as u8,
-            1 + ((group.0 % 4 + 3) % 4) as u8,
+            Tree::Allocating(Group(group.0 % 4 + 1)),
+            Tree::Allocating(Group(group.0 % 4 + 2)),
+            Tree::Allocating(Group(group.0 % 4 + 3)),
         ];
         let open = 4 - (group.0 - self.collected.0) as usize;
-        let given = lowest_in(&self.trees, &NOT_HANDED_OUT, seg);
+        let given = lowest_in(&self.trees, &not_handed_out, seg);
         let later = lowest_in(&self.trees, &later[..open], seg);
         lower(given, later, seg)
+    }
+
+    /// Frees units that may be freed: they are deferred.
+    fn defer(&mut self, lane: u8, group: Group, seg: Seg)
+        requires lane { IsLane lane }
+        requires may { MayFree (origin_of self.old) self.old.notes group.0 seg }
+        requires room { 0 < self.old.room }
+        ensures note { self.new.notes ≡ noted self.old.notes lane (Free group seg) }
+        ensures stays { StaysButNotes self.old self.new }
+        ensures room { self.old.room ≤ self.new.room + 1 }
+        ensures memory { self.new.memory ≡ self.old.memory }
+    {
+        stepping::add(&mut self.trees, Tree::Freeing(group), seg);
+        self.live -= seg.count;
+        self.deferred += seg.count;
+        push_note(&mut self.notes, lane, Act::Free { group, seg });
     }
 
     /// Frees a segment in this group, as `metaslab_free_concrete` does: it is deferred, and vacant again from the second
@@ -281,7 +363,7 @@ impl<R: SegTrees> Metaslab<R> {
     /// lowest unit that is not handed out in a group of at most this one. Takes no memory. Costs at most eleven calls on
     /// the trees.
     pub fn free(&mut self, lane: u8, group: Group, seg: Seg) -> Result<(), MsFault>
-        requires lane { (1 ≤ lane) × (lane ≤ 16) }
+        requires lane { IsLane lane }
         requires group { group.0 ≤ settled_of self.old + 3 }
         requires segment { IsWithin self.old.units seg }
         requires room { 0 < self.old.room }
@@ -297,24 +379,14 @@ impl<R: SegTrees> Metaslab<R> {
         ensures note { OnOk result (self.new.notes ≡ noted self.old.notes lane (Free group seg)) }
         ensures stays { StaysButNotes self.old self.new }
         ensures room { self.old.room ≤ self.new.room + 1 }
+        ensures memory { self.new.memory ≡ self.old.memory }
         ensures err { OnErr result (self.new ≡ self.old) }
     {
-        if group.0 <= self.collected.0 {
-            return Err(MsFault::Late {
-                group,
-                collected: self.collected,
-            });
-        }
-        if !self.loaded {
-            return Err(MsFault::NotLoaded);
-        }
+        self.admit(group)?;
         if let Some(unit) = self.first_not_live(group, seg) {
             return Err(MsFault::NotLive { unit });
         }
-        stepping::add(&mut self.trees, freeing_tree(group), seg);
-        self.live -= seg.count;
-        self.deferred += seg.count;
-        push_note(&mut self.notes, lane, Act::Free { group, seg });
+        self.defer(lane, group, seg);
         Ok(())
     }
 
@@ -327,6 +399,26 @@ impl<R: SegTrees> Metaslab<R> {
         first_foreign(&self.notes, lane, group, seg)
     }
 
+    /// Takes units back that may be taken back: they are vacant.
+    fn take_back(&mut self, lane: u8, group: Group, seg: Seg)
+        requires lane { IsLane lane }
+        requires may { MayTakeBack (origin_of self.old) self.old.notes lane group.0 seg }
+        requires room { 0 < self.old.room }
+        ensures note { self.new.notes ≡ noted self.old.notes lane (Unalloc group seg) }
+        ensures stays { StaysButNotes self.old self.new }
+        ensures room { self.old.room ≤ self.new.room + 1 }
+        ensures memory { self.new.memory ≡ self.old.memory }
+    {
+        stepping::move_seg(
+            &mut self.trees,
+            Tree::Allocating(group),
+            Tree::Allocatable,
+            seg,
+        );
+        self.live -= seg.count;
+        push_note(&mut self.notes, lane, Act::Unalloc { group, seg });
+    }
+
     /// Takes back what this lane was handed out in this group, as `metaslab_unalloc_dva` does: it is vacant at once.
     ///
     /// `Late` where the group was collected, else `NotLoaded` where free space is not in memory, else `NotLive` with the
@@ -334,7 +426,7 @@ impl<R: SegTrees> Metaslab<R> {
     /// the trees and, for each piece of the segment that was granted at once, a look back through the notes up to the
     /// settle of the group three before this one.
     pub fn unalloc(&mut self, lane: u8, group: Group, seg: Seg) -> Result<(), MsFault>
-        requires lane { (1 ≤ lane) × (lane ≤ 16) }
+        requires lane { IsLane lane }
         requires group { group.0 ≤ settled_of self.old + 3 }
         requires segment { IsWithin self.old.units seg }
         requires room { 0 < self.old.room }
@@ -350,76 +442,52 @@ impl<R: SegTrees> Metaslab<R> {
         ensures note { OnOk result (self.new.notes ≡ noted self.old.notes lane (Unalloc group seg)) }
         ensures stays { StaysButNotes self.old self.new }
         ensures room { self.old.room ≤ self.new.room + 1 }
+        ensures memory { self.new.memory ≡ self.old.memory }
         ensures err { OnErr result (self.new ≡ self.old) }
     {
-        if group.0 <= self.collected.0 {
-            return Err(MsFault::Late {
-                group,
-                collected: self.collected,
-            });
-        }
-        if !self.loaded {
-            return Err(MsFault::NotLoaded);
-        }
+        self.admit(group)?;
         if let Some(unit) = self.first_not_own(lane, group, seg) {
             return Err(MsFault::NotLive { unit });
         }
-        stepping::move_seg(&mut self.trees, allocating_tree(group), ALLOCATABLE, seg);
-        self.live -= seg.count;
-        push_note(&mut self.notes, lane, Act::Unalloc { group, seg });
+        self.take_back(lane, group, seg);
         Ok(())
     }
 
-    /// May this group have given something back? No group did that is more than three above the settled one.
-    fn gave_back(&self, group: Group) -> bool
-        ensures yes { result ≡ true → group.0 ≤ settled_of self.now + 3 }
-        ensures none { result ≡ false → (u : ℕ) → is_given group.0 self.now.notes u ≡ false }
+    /// The tree of what a group changed; no group gave anything back that is more than three above the settled one.
+    fn tree_of(&self, change: Change, group: Group) -> Option<Tree>
+        ensures { result ≡ tree_of change group (settled_of self.now) }
     {
-        group.0.saturating_sub(3) <= self.settled.0
-    }
-
-    /// How many runs the next group gained.
-    fn gained_runs(&self, group: Group) -> u64
-        requires { group.0 ≡ collected_of self.now + 1 }
-        ensures runs { result ≡ run_count (is_gained group.0 self.now.notes) self.now.units }
-        ensures bound { result < 2 ^ 32 }
-    {
-        self.trees.nodes(allocating_tree(group)) as u64
-    }
-
-    /// How many runs the next group gave back.
-    fn given_runs(&self, group: Group) -> u64
-        requires { group.0 ≡ collected_of self.now + 1 }
-        ensures runs { result ≡ run_count (is_given group.0 self.now.notes) self.now.units }
-        ensures bound { result < 2 ^ 32 }
-    {
-        if !self.gave_back(group) {
-            return 0;
+        match change {
+            Change::Gained => Some(Tree::Allocating(group)),
+            Change::Given if group.0.saturating_sub(3) <= self.settled.0 => {
+                Some(Tree::Freeing(group))
+            }
+            Change::Given => None,
         }
-        self.trees.nodes(freeing_tree(group)) as u64
     }
 
-    /// Writes the runs that the next group gained into an empty list, which has room for them.
-    fn push_gained(&self, group: Group, out: &mut Vec<Seg>)
-        requires group { group.0 ≡ collected_of self.now + 1 }
-        requires empty { out.old.items ≡ [] }
-        requires room { run_count (is_gained group.0 self.now.notes) self.now.units ≤ vec_capacity out.old }
-        ensures runs { AreMaximalRuns (is_gained group.0 self.now.notes) self.now.units out.new.items }
-        ensures capacity { vec_capacity out.new ≡ vec_capacity out.old }
+    /// How many runs the next group changed.
+    fn run_count(&self, change: Change, group: Group) -> u64
+        requires { group.0 ≡ collected_of self.now + 1 }
+        ensures runs { result ≡ run_count (is_changed change group.0 self.now.notes) self.now.units }
+        ensures bound { result < 2 ^ 32 }
     {
-        push_runs(&self.trees, allocating_tree(group), self.units, out);
+        match self.tree_of(change, group) {
+            Some(tree) => stepping::nodes(&self.trees, tree) as u64,
+            None => 0,
+        }
     }
 
-    /// Writes the runs that the next group gave back into an empty list, which has room for them.
-    fn push_given(&self, group: Group, out: &mut Vec<Seg>)
+    /// Writes the runs that the next group changed into an empty list, which has room for them.
+    fn push_changed(&self, change: Change, group: Group, out: &mut Vec<Seg>)
         requires group { group.0 ≡ collected_of self.now + 1 }
         requires empty { out.old.items ≡ [] }
-        requires room { run_count (is_given group.0 self.now.notes) self.now.units ≤ vec_capacity out.old }
-        ensures runs { AreMaximalRuns (is_given group.0 self.now.notes) self.now.units out.new.items }
+        requires room { run_count (is_changed change group.0 self.now.notes) self.now.units ≤ vec_capacity out.old }
+        ensures runs { AreMaximalRuns (is_changed change group.0 self.now.notes) self.now.units out.new.items }
         ensures capacity { vec_capacity out.new ≡ vec_capacity out.old }
     {
-        if self.gave_back(group) {
-            push_runs(&self.trees, freeing_tree(group), self.units, out);
+        if let Some(tree) = self.tree_of(change, group) {
+            push_runs(&self.trees, tree, self.units, out);
         }
     }
 
@@ -429,7 +497,7 @@ impl<R: SegTrees> Metaslab<R> {
     /// `Short`, and nothing changes, where the buffer has less room than there are runs. Takes no memory. Costs a call on
     /// the trees for each run.
     pub fn collect(&mut self, lane: u8, group: Group, buf: &mut RunBuf) -> Result<(), MsFault>
-        requires lane { (1 ≤ lane) × (lane ≤ 16) }
+        requires lane { IsLane lane }
         requires group { group.0 ≡ collected_of self.old + 1 }
         requires room { 0 < self.old.room }
         requires empty { (buf.old.allocs.items ≡ []) × (buf.old.frees.items ≡ []) }
@@ -440,18 +508,19 @@ impl<R: SegTrees> Metaslab<R> {
         ensures note { OnOk result (self.new.notes ≡ noted self.old.notes lane (Collect group)) }
         ensures stays { StaysButNotes self.old self.new }
         ensures room { self.old.room ≤ self.new.room + 1 }
+        ensures memory { self.new.memory ≡ self.old.memory }
         ensures err { OnErr result ((self.new ≡ self.old) × ((buf.new.allocs.items ≡ []) × (buf.new.frees.items ≡ []))) }
 
         // The buffer keeps its memory.
-        ensures memory { (vec_capacity buf.new.allocs ≡ vec_capacity buf.old.allocs) × (vec_capacity buf.new.frees ≡ vec_capacity buf.old.frees) }
+        ensures buffer { (vec_capacity buf.new.allocs ≡ vec_capacity buf.old.allocs) × (vec_capacity buf.new.frees ≡ vec_capacity buf.old.frees) }
     {
-        let need = self.gained_runs(group) + self.given_runs(group);
+        let need = self.run_count(Change::Gained, group) + self.run_count(Change::Given, group);
         if need > buf.room() {
             return Err(MsFault::Short { need });
         }
-        self.push_gained(group, &mut buf.allocs);
-        self.push_given(group, &mut buf.frees);
-        self.trees.clear(allocating_tree(group));
+        self.push_changed(Change::Gained, group, &mut buf.allocs);
+        self.push_changed(Change::Given, group, &mut buf.frees);
+        stepping::clear(&mut self.trees, Tree::Allocating(group));
         self.collected = group;
         push_note(&mut self.notes, lane, Act::Collect { group });
         Ok(())
@@ -461,14 +530,15 @@ impl<R: SegTrees> Metaslab<R> {
     /// was freed in it is deferred, as in `metaslab_sync_done`. Takes no memory, and none of the room that `ready` took.
     /// Costs the runs of the trees of what is vacant, freed and deferred.
     pub fn settle(&mut self, lane: u8, group: Group)
-        requires lane { (1 ≤ lane) × (lane ≤ 16) }
+        requires lane { IsLane lane }
         requires group { group.0 ≡ settled_of self.old + 1 }
         requires collected { group.0 ≤ collected_of self.old }
         ensures note { self.new.notes ≡ noted self.old.notes lane (Settle group) }
         ensures stays { StaysButNotes self.old self.new }
         ensures room { self.old.room ≤ self.new.room }
+        ensures memory { self.new.memory ≡ self.old.memory }
     {
-        self.deferred -= self.trees.units(deferred_tree(group));
+        self.deferred -= stepping::units(&self.trees, Tree::Deferred(group));
         settle_trees(&mut self.trees, group, self.loaded);
         self.settled = group;
         push_note(&mut self.notes, lane, Act::Settle { group });
@@ -476,15 +546,16 @@ impl<R: SegTrees> Metaslab<R> {
 
     /// Brings free space into memory, as `metaslab_load` does: `held` is what the settled groups hold. Answers false, and
     /// changes nothing, where it is there already. Needs no `ready`, and may use up what one took. Costs a call on the trees
-    /// for each gap of `held`.
+    /// for each segment of `held`, and one more.
     pub fn load(&mut self, lane: u8, held: &[Seg]) -> Result<bool, AllocError>
-        requires lane { (1 ≤ lane) × (lane ≤ 16) }
+        requires lane { IsLane lane }
         requires segs { AreSegs self.old.units held.now }
         requires held { (u : ℕ) → u < self.old.units → covered held.now u ≡ holds (origin_of self.old) self.old.notes (settled_of self.old) u }
         ensures already { is_loaded self.old.notes ≡ true → result ≡ Ok false }
         ensures loads { is_loaded self.old.notes ≡ false → IfOk result (λ loads. loads ≡ true) }
         ensures note { result ≡ Ok true → self.new.notes ≡ noted self.old.notes lane Load }
         ensures same { result ≡ Ok false → self.new ≡ self.old }
+        ensures memory { HasMore self.old self.new }
         ensures stays { StaysButNotes self.old self.new }
         ensures err { OnErr result (self.new.notes ≡ self.old.notes) }
     {
@@ -492,14 +563,20 @@ impl<R: SegTrees> Metaslab<R> {
             return Ok(false);
         }
         let unsettled = (self.collected.0 - self.settled.0) as usize;
-        self.notes.reserve(unsettled + 1)?;
-        let waiting = waiting_nodes(&self.trees);
-        self.trees.reserve(waiting + held.len() as u32 + 1)?;
+        let nodes = held.len() as u32 + 1;
+        reserve(&mut self.notes, &mut self.trees, unsettled + 1, nodes)?;
         add_gaps(&mut self.trees, held, self.units);
-        self.cursors = [0; 18];
+        self.cursors = [0; CURSORS];
         self.loaded = true;
         push_note(&mut self.notes, lane, Act::Load);
         Ok(true)
+    }
+
+    /// How many units are vacant.
+    fn vacant(&self) -> u32
+        ensures { result ≡ vacant_units (origin_of self.now) self.now.notes }
+    {
+        self.units - self.live - self.deferred
     }
 
     /// How many units are handed out, deferred and vacant, at constant cost.
@@ -511,7 +588,7 @@ impl<R: SegTrees> Metaslab<R> {
         Counts {
             live: self.live,
             deferred: self.deferred,
-            vacant: self.units - self.live - self.deferred,
+            vacant: self.vacant(),
         }
     }
 
@@ -521,13 +598,9 @@ impl<R: SegTrees> Metaslab<R> {
         ensures unloaded { is_loaded self.now.notes ≡ false → IsHistogramOf (as_one_run (origin_of self.now) self.now.notes) self.now.units self.now.ashift result }
     {
         if self.loaded {
-            return self.trees.histogram(ALLOCATABLE, self.ashift);
+            return stepping::histogram(&self.trees, Tree::Allocatable, self.ashift);
         }
-        one_run(
-            self.units - self.live - self.deferred,
-            self.ashift,
-            self.units,
-        )
+        one_run(self.vacant(), self.ashift, self.units)
     }
 
     /// Its weight, by which metaslabs are compared: that of its vacant runs and, while it is not loaded, of as many vacant
@@ -540,9 +613,10 @@ impl<R: SegTrees> Metaslab<R> {
         weight_of(&self.vacant_runs())
     }
 
-    /// The group that was settled last, or the opened one.
+    /// The group that was settled last, or the opened one. Each note so far is of a lane from 1 to 16.
     pub fn settled(&self) -> Group
-        ensures { result.0 ≡ settled_of self.now }
+        ensures group { result.0 ≡ settled_of self.now }
+        ensures lanes { AreOfLanes self.now.notes }
     {
         self.settled
     }
@@ -570,14 +644,15 @@ impl<R: SegTrees> Metaslab<R> {
 }
 
 impl<R: SegTrees + Drop> Metaslab<R> {
-    /// The journal, with the metaslab's name, its units and their shift, and how many units the base holds. Takes no
-    /// memory.
+    /// The journal, with the metaslab's name, its units and their shift, and how many units the base holds. Each note is of
+    /// a lane from 1 to 16. Takes no memory.
     pub fn into_journal(self) -> MsJournal
         ensures id { result.id ≡ self.id }
         ensures units { result.units ≡ self.units }
         ensures ashift { result.ashift ≡ self.ashift }
         ensures held { result.held ≡ units_in (covered self.base) self.units }
         ensures notes { result.notes ≡ self.notes }
+        ensures lanes { AreOfLanes self.notes }
         ensures legal { IsLegal (origin_of self) self.notes }
     {
         MsJournal {

@@ -5,7 +5,7 @@ use Rattle.std.specs.List.{fold, filter, list_all, All}
 use Rattle.std.proofs.lemmas.Bool.{lt-ltb, le-ltb}
 use Rattle.std.proofs.lemmas.Bool.Decides.{nat_tests}
 use Rattle.zms_units.specs.Segments.{covers}
-use Rattle.zms_units.proofs.UnitTests.{le_or, same_not, or_left, or_right, true_and, true_or_false}
+use Rattle.zms_units.proofs.Bools.{le_or, same_not, not_true, or_left, or_right, true_and, true_or_false, and_false}
 use Rattle.ms_model.specs.Origin.{Origin}
 use Rattle.ms_model.specs.Units.{LastAct, granted, freed, taken_back, untouched, act_on, first_act, last_act, act_within, is_grant, held, settled_group, collected_group, is_loaded}
 use Rattle.ms_model.specs.Spaces.{keeps_busy, is_vacant}
@@ -16,8 +16,8 @@ use Rattle.ms_model.specs.declared.notes.Act.TheVariants.{Grant, Free, Unalloc, 
 use Rattle.ms_model.specs.declared.notes.Noted.{Noted}
 use Rattle.ms_model.proofs.Lists.{by_snoc}
 use Rattle.ms_model.proofs.Histories.{last_act-push, settled_group-push, is_gained-push, is_given-push, by_legal}
-use Rattle.ms_model.proofs.UnitFacts.{IsGainOf, IsGiftOf, and-false, is_false, vacant_gain, vacant_gift}
-use Rattle.ms_model.proofs.Overlaps.{unit_facts, not_true, settled_le_collected, opened_le_settled}
+use Rattle.ms_model.proofs.UnitFacts.{IsGainOf, IsGiftOf, is_false, vacant_gain, vacant_gift}
+use Rattle.ms_model.proofs.Overlaps.{unit_facts, settled_le_collected, opened_le_settled}
 use Rattle.ms_model.proofs.Held.{settled_by_grows, as_opened, held-as_opened}
 
 -- the act changes units, in group t
@@ -100,12 +100,12 @@ given_old o h t u legal old = given_outside o h t u legal (inr old)
 grant_gained : (c x b : Bool) (g by lane group : ℕ) (last : LastAct) → (g ≡ group → x ≡ true) → (last ≡ granted (Some lane) group → b ≡ true)
     → cond c (granted (Some by) g) last ≡ granted (Some lane) group → cond (x && c) true b ≡ true
 grant_gained true x b g by lane group last own before e = let here : x ≡ true = own (cc) in rw here refl
-grant_gained false x b g by lane group last own before e = rw (and-false x) (before e)
+grant_gained false x b g by lane group last own before e = rw (and_false x) (before e)
 
 unalloc_gained : (c x b : Bool) (lane group : ℕ) (last : LastAct) → (last ≡ granted (Some lane) group → b ≡ true)
     → cond c taken_back last ≡ granted (Some lane) group → cond (x && c) false b ≡ true
 unalloc_gained true x b lane group last before e = absurd (cc)
-unalloc_gained false x b lane group last before e = rw (and-false x) (before e)
+unalloc_gained false x b lane group last before e = rw (and_false x) (before e)
 
 free_gained : (c b : Bool) (g lane group : ℕ) (last : LastAct) → (last ≡ granted (Some lane) group → b ≡ true)
     → cond c (freed g) last ≡ granted (Some lane) group → b ≡ true

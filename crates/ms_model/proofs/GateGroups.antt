@@ -10,8 +10,8 @@ use Rattle.ms_model.specs.Steps.{Step, notes_at, notes_of, Follows}
 use Rattle.ms_model.specs.declared.notes.GateNote.{GateNote}
 use Rattle.ms_model.specs.declared.notes.GateNote.TheVariants.{Closed, Settled}
 use Rattle.ms_model.proofs.Lists.{by_snoc, all_right}
-use Rattle.ms_model.proofs.Totals.{count_by_cons}
-use Rattle.ms_model.proofs.Steps.{follows_rest, follows_between}
+use Rattle.zms_units.proofs.Counting.{count_cons}
+use Rattle.lane_steps.proofs.Steps.{follows_rest, follows_between}
 
 pub open_group-push : (opened : ℕ) (h : List GateNote) (note : GateNote) → open_group opened (h ++ note ∷ []) ≡ opened_by (open_group opened h) note
 open_group-push opened h note = fold_push _ _ h note
@@ -84,12 +84,12 @@ gate_facts opened h legal =
 
 -- a part of the notes closes no more groups than all of them
 filtered : (b : Bool) (n : GateNote) (kept : List GateNote) → closings (cond b (n ∷ kept) kept) ≤ closings (n ∷ []) + closings kept
-filtered true n kept = omega (arith, count_by_cons is_closing n kept)
+filtered true n kept = omega (arith, count_cons is_closing n kept)
 filtered false n kept = omega arith
 
 pub closings-filter : (p : GateNote → Bool) (xs : List GateNote) → closings (filter p xs) ≤ closings xs
 closings-filter p [] = omega arith
-closings-filter p (x ∷ xs) = omega (arith, filtered (p x) x (filter p xs), count_by_cons is_closing x xs, closings-filter p xs)
+closings-filter p (x ∷ xs) = omega (arith, filtered (p x) x (filter p xs), count_cons is_closing x xs, closings-filter p xs)
 
 -- from one beginning of a legal journal to a longer one the open group rises by the closings between, and is above each group closed there
 pub record Rises (opened : ℕ) (h rest j : List GateNote) : Type 0 where

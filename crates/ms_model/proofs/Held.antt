@@ -4,15 +4,15 @@ use Rattle.std.specs.Prelude.{nat_le, ◌≢◌}
 use Rattle.std.specs.List.{All}
 use Rattle.std.proofs.lemmas.Bool.{le-leb, lt-leb}
 use Rattle.std.proofs.lemmas.List.Elements.{All-head}
+use Rattle.zms_units.proofs.Bools.{same_cond}
 use Rattle.ms_model.specs.Origin.{Origin}
 use Rattle.ms_model.specs.Units.{LastAct, granted, untouched, act_on, first_act, last_act, act_within, is_grant, held, settled_by, settled_group, loaded_by, is_loaded}
 use Rattle.ms_model.specs.Spaces.{is_live}
 use Rattle.ms_model.specs.Legal.{ChangesAbove, MayDo, IsLegal}
 use Rattle.ms_model.specs.declared.notes.Act.{Act}
-use Rattle.ms_model.specs.declared.notes.Act.TheVariants.{Grant, Free, Unalloc, Miss, Shut, Collect, Settle, Load, Unload, Disable, Work, Enable}
+use Rattle.ms_model.specs.declared.notes.Act.TheVariants.{Grant, Free, Unalloc, Collect, Settle, Load, Unload}
 use Rattle.ms_model.specs.declared.notes.Noted.{Noted}
 use Rattle.ms_model.proofs.Histories.{held_act, last_act-push, held_act-push, is_loaded-push, settled_group-push, by_legal}
-use Rattle.ms_model.proofs.UnitFacts.{same_cond}
 use Rattle.ms_model.proofs.Lists.{by_snoc, all_left, all_right}
 
 -- the act is a grant, free or take-back of a group of at most t
@@ -31,13 +31,7 @@ held_quiet t u lane (Free group seg) so_far none = held_at_above group.0 t _ so_
 held_quiet t u lane (Unalloc group seg) so_far none = held_at_above group.0 t _ so_far none
 held_quiet t u lane (Collect group) so_far none = same_cond (nat_le group.0 t) so_far
 held_quiet t u lane (Settle group) so_far none = same_cond (nat_le group.0 t) so_far
-held_quiet t u lane (Miss count) so_far none = refl
-held_quiet t u lane Shut so_far none = refl
-held_quiet t u lane Load so_far none = refl
-held_quiet t u lane Unload so_far none = refl
-held_quiet t u lane (Disable worker) so_far none = refl
-held_quiet t u lane (Work worker kind seg) so_far none = refl
-held_quiet t u lane (Enable worker) so_far none = refl
+held_quiet t u lane _ so_far none = refl
 
 -- a note that changes no unit up to group t leaves what t holds
 pub held_act-quiet : (o : Origin) (h : List Noted) (note : Noted) (t u : ℕ) → (ChangesUpTo t note.act → ⊥) → held_act o (h ++ note ∷ []) t u ≡ held_act o h t u
@@ -54,15 +48,7 @@ held_act-change o h note t u within = held_act-push o h note t u ∙ changed t u
   changed t u lane (Grant group seg) so_far le = ap (λ b. cond b (act_on u so_far lane (Grant group seg)) so_far) (le-leb group.0 t le)
   changed t u lane (Free group seg) so_far le = ap (λ b. cond b (act_on u so_far lane (Free group seg)) so_far) (le-leb group.0 t le)
   changed t u lane (Unalloc group seg) so_far le = ap (λ b. cond b (act_on u so_far lane (Unalloc group seg)) so_far) (le-leb group.0 t le)
-  changed t u lane (Collect group) so_far le = absurd le
-  changed t u lane (Settle group) so_far le = absurd le
-  changed t u lane (Miss count) so_far le = absurd le
-  changed t u lane Shut so_far le = absurd le
-  changed t u lane Load so_far le = absurd le
-  changed t u lane Unload so_far le = absurd le
-  changed t u lane (Disable worker) so_far le = absurd le
-  changed t u lane (Work worker kind seg) so_far le = absurd le
-  changed t u lane (Enable worker) so_far le = absurd le
+  changed t u lane _ so_far le = absurd le
 
 -- where no note is of a group above t, group t holds what is live
 
@@ -72,13 +58,7 @@ kept_or_quiet t u lane (Free group seg) so_far none = ap (λ b. cond b (act_on u
 kept_or_quiet t u lane (Unalloc group seg) so_far none = ap (λ b. cond b (act_on u so_far lane (Unalloc group seg)) so_far) (le-leb group.0 t (omega arith))
 kept_or_quiet t u lane (Collect group) so_far none = same_cond (nat_le group.0 t) so_far
 kept_or_quiet t u lane (Settle group) so_far none = same_cond (nat_le group.0 t) so_far
-kept_or_quiet t u lane (Miss count) so_far none = refl
-kept_or_quiet t u lane Shut so_far none = refl
-kept_or_quiet t u lane Load so_far none = refl
-kept_or_quiet t u lane Unload so_far none = refl
-kept_or_quiet t u lane (Disable worker) so_far none = refl
-kept_or_quiet t u lane (Work worker kind seg) so_far none = refl
-kept_or_quiet t u lane (Enable worker) so_far none = refl
+kept_or_quiet t u lane _ so_far none = refl
 
 changes_within : (g t : ℕ) → g ≤ t → t < g → ⊥
 changes_within g t le lt = omega arith
@@ -88,15 +68,7 @@ pub change_is_near : (o : Origin) (h : List Noted) (t lane : ℕ) (act : Act) �
 change_is_near o h t lane (Grant group seg) le may lt = omega (arith, may.open_group.near)
 change_is_near o h t lane (Free group seg) le may lt = omega (arith, may.open_group.near)
 change_is_near o h t lane (Unalloc group seg) le may lt = omega (arith, may.open_group.near)
-change_is_near o h t lane (Collect group) le may lt = lt
-change_is_near o h t lane (Settle group) le may lt = lt
-change_is_near o h t lane (Miss count) le may lt = lt
-change_is_near o h t lane Shut le may lt = lt
-change_is_near o h t lane Load le may lt = lt
-change_is_near o h t lane Unload le may lt = lt
-change_is_near o h t lane (Disable worker) le may lt = lt
-change_is_near o h t lane (Work worker kind seg) le may lt = lt
-change_is_near o h t lane (Enable worker) le may lt = lt
+change_is_near o h t lane _ le may lt = lt
 
 held_act-kept : (o : Origin) (h : List Noted) (note : Noted) (t u : ℕ) → (ChangesAbove t note.act → ⊥) → held_act o h t u ≡ last_act o h u
     → held_act o (h ++ note ∷ []) t u ≡ last_act o (h ++ note ∷ []) u
@@ -118,18 +90,8 @@ held_act-all o h t u all =
     h all
 
 pub settled_by_grows : (o : Origin) (h : List Noted) (lane : ℕ) (act : Act) → MayDo o h lane act → settled_group o h ≤ settled_by (settled_group o h) act
-settled_by_grows o h lane (Grant group seg) may = omega arith
-settled_by_grows o h lane (Free group seg) may = omega arith
-settled_by_grows o h lane (Unalloc group seg) may = omega arith
-settled_by_grows o h lane (Collect group) may = omega arith
 settled_by_grows o h lane (Settle group) may = omega (arith, may.0)
-settled_by_grows o h lane (Miss count) may = omega arith
-settled_by_grows o h lane Shut may = omega arith
-settled_by_grows o h lane Load may = omega arith
-settled_by_grows o h lane Unload may = omega arith
-settled_by_grows o h lane (Disable worker) may = omega arith
-settled_by_grows o h lane (Work worker kind seg) may = omega arith
-settled_by_grows o h lane (Enable worker) may = omega arith
+settled_by_grows o h lane _ may = omega arith
 
 -- in a legal history a group three past the settled one holds what is live
 pub held_act-near : (o : Origin) (h : List Noted) (t u : ℕ) → IsLegal o h → settled_group o h + 3 ≤ t → held_act o h t u ≡ last_act o h u
@@ -168,15 +130,9 @@ as_opened_do : (o : Origin) (h : List Noted) (u lane : ℕ) (act : Act) → MayD
 as_opened_do o h u lane (Grant group seg) may kept idle as_is = let busy : is_loaded h ≡ true = may.takes.loaded in cc
 as_opened_do o h u lane (Free group seg) may kept idle as_is = let busy : is_loaded h ≡ true = may.loaded in cc
 as_opened_do o h u lane (Unalloc group seg) may kept idle as_is = let busy : is_loaded h ≡ true = may.loaded in cc
-as_opened_do o h u lane (Miss count) may kept idle as_is = as_opened_push o h _ u (λ t x. x) refl (as_is idle)
-as_opened_do o h u lane Shut may kept idle as_is = as_opened_push o h _ u (λ t x. x) refl (as_is idle)
-as_opened_do o h u lane (Collect group) may kept idle as_is = as_opened_push o h _ u (λ t x. x) refl (as_is idle)
-as_opened_do o h u lane (Settle group) may kept idle as_is = as_opened_push o h _ u (λ t x. x) refl (as_is idle)
 as_opened_do o h u lane Load may kept idle as_is = cc
 as_opened_do o h u lane Unload may kept idle as_is = absurd (kept refl)
-as_opened_do o h u lane (Disable worker) may kept idle as_is = as_opened_push o h _ u (λ t x. x) refl (as_is idle)
-as_opened_do o h u lane (Work worker kind seg) may kept idle as_is = as_opened_push o h _ u (λ t x. x) refl (as_is idle)
-as_opened_do o h u lane (Enable worker) may kept idle as_is = as_opened_push o h _ u (λ t x. x) refl (as_is idle)
+as_opened_do o h u lane _ may kept idle as_is = as_opened_push o h _ u (λ t x. x) refl (as_is idle)
 
 pub as_opened : (o : Origin) (h : List Noted) (u : ℕ) → IsLegal o h → is_loaded h ≡ false → All (λ note. note.act ≢ Unload) h → IsAsOpened o h u
 as_opened o h u legal idle kept =

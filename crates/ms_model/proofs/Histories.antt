@@ -1,16 +1,18 @@
 -- Journals that grow by one note, and the induction over legal ones.
 use Rattle.std.proofs.Common.{◌≡◌, ℕ, Bool, true, false, cond, List, [], ◌∷◌, ◌++◌, refl, sym, ◌∙◌, ap, subst, append_assoc}
-use Rattle.std.specs.Prelude.{◌||◌}
+use Rattle.std.specs.Prelude.{◌||◌, ◌≢◌}
 use Rattle.std.specs.List.{filter}
 use Rattle.std.proofs.lemmas.List.{append-nil}
 use Rattle.std.proofs.lemmas.List.Elements.{filter-append}
 use Rattle.std.proofs.lemmas.List.Folds.{list_any-append}
 use Rattle.std.proofs.lemmas.List.Sums.{fold_push}
 use Rattle.ms_model.specs.Origin.{Origin}
-use Rattle.ms_model.specs.Units.{LastAct, act_on, last_act, act_within, settled_by, settled_group, collected_by, collected_group, loaded_by, is_loaded, disabled_by, worker_at}
+use Rattle.ms_model.specs.Units.{noted, LastAct, act_on, last_act, act_within, settled_by, settled_group, collected_by, collected_group, loaded_by, is_loaded, disabled_by, worker_at}
 use Rattle.ms_model.specs.Cursors.{cursor_by, cursor_at}
 use Rattle.ms_model.specs.Gains.{gained_by, is_gained, gives, is_given}
 use Rattle.ms_model.specs.Legal.{MayDo, IsLegal}
+use Rattle.ms_model.specs.declared.notes.Act.{Act}
+use Rattle.ms_model.specs.declared.notes.Act.TheVariants.{Collect, Settle, Unload}
 use Rattle.ms_model.specs.declared.notes.Noted.{Noted}
 use Rattle.ms_model.proofs.Lists.{by_snoc, Standing, is_last, is_earlier, standing}
 
@@ -36,6 +38,30 @@ is_gained-push t h note u = fold_push _ _ h note
 
 pub cursor_at-push : (h : List Noted) (note : Noted) (number : ℕ) → cursor_at (h ++ note ∷ []) number ≡ cursor_by number (cursor_at h number) note.act
 cursor_at-push h note number = fold_push _ _ h note
+
+-- acts that neither settle nor collect, nor give free space up
+abbrev pub LeavesGroups : Act → Type 0
+LeavesGroups (Collect _) = ⊥
+LeavesGroups (Settle _) = ⊥
+LeavesGroups Unload = ⊥
+LeavesGroups _ = Unit {0}
+
+settled_stays : (s : ℕ) (act : Act) → LeavesGroups act → settled_by s act ≡ s
+settled_stays s (Settle _) leaves = absurd leaves
+settled_stays s _ leaves = refl
+
+collected_stays : (s : ℕ) (act : Act) → LeavesGroups act → collected_by s act ≡ s
+collected_stays s (Collect _) leaves = absurd leaves
+collected_stays s _ leaves = refl
+
+pub no_unload : (act : Act) → LeavesGroups act → act ≢ Unload
+no_unload act leaves e = subst LeavesGroups e leaves
+
+pub settled_note : (o : Origin) (h : List Noted) (lane : ℕ) (act : Act) → LeavesGroups act → settled_group o (noted h lane act) ≡ settled_group o h
+settled_note o h lane act leaves = settled_group-push o h (record { lane = lane; act = act }) ∙ settled_stays (settled_group o h) act leaves
+
+pub collected_note : (o : Origin) (h : List Noted) (lane : ℕ) (act : Act) → LeavesGroups act → collected_group o (noted h lane act) ≡ collected_group o h
+collected_note o h lane act leaves = collected_group-push o h (record { lane = lane; act = act }) ∙ collected_stays (collected_group o h) act leaves
 
 or-false : (a b : Bool) → (a || (b || false)) ≡ (a || b)
 or-false true b = refl

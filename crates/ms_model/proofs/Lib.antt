@@ -3,10 +3,11 @@ pub mod Histories
 pub mod UnitFacts
 pub mod Overlaps
 pub mod Totals
-pub mod Steps
+pub mod Events
 pub mod GateGroups
 pub mod Held
 pub mod RunLooks
 pub mod Reflecting
 pub mod Waiting
 pub mod Changes
+pub mod Rights

@@ -1,34 +1,20 @@
 -- The facts of a unit hold in each legal history, so what is granted or worked is free of all.
-use Rattle.std.proofs.Common.{◌≡◌, ℕ, ◌+◌, ◌≤◌, ◌<◌, Bool, true, false, cond, Some, None, List, [], ◌∷◌, ◌++◌, refl, arith}
-use Rattle.std.specs.Prelude.{◌||◌, ◌&&◌, not, nat_le, nat_lt}
-use Rattle.std.proofs.lemmas.Bool.{leb-true, ltb-true}
-use Rattle.zms_units.specs.declared.segments.Seg.{Seg}
-use Rattle.zms_units.specs.Segments.{covers, Covers, end_of}
+use Rattle.std.proofs.Common.{◌≡◌, ℕ, ◌+◌, ◌≤◌, ◌<◌, Bool, true, false, cond, Some, None, List, [], ◌∷◌, ◌++◌, refl, sym, subst, arith}
+use Rattle.std.specs.Prelude.{◌||◌, ◌&&◌}
+use Rattle.zms_units.specs.Segments.{covers}
+use Rattle.zms_units.proofs.Bools.{not_true, same_cond, or_false, and_false}
+use Rattle.zms_units.proofs.Covers.{covers_true}
 use Rattle.ms_model.specs.Origin.{Origin}
 use Rattle.ms_model.specs.Units.{LastAct, granted, freed, taken_back, untouched, act_on, last_act, act_within, is_grant, settled_by, settled_group, collected_by, collected_group}
 use Rattle.ms_model.specs.Spaces.{keeps_busy, is_busy, is_vacant}
 use Rattle.ms_model.specs.Gains.{gained_by, is_gained, gives, is_given}
 use Rattle.ms_model.specs.Legal.{IsGrantedBy, MayDo, IsLegal}
-use Rattle.ms_model.specs.Laws.{IsFreeOfAll}
+use Rattle.ms_model.specs.Laws.{IsFreeOfAll, Takes, GrantsOverlapNothing}
 use Rattle.ms_model.specs.declared.notes.Act.{Act}
-use Rattle.ms_model.specs.declared.notes.Act.TheVariants.{Grant, Free, Unalloc, Miss, Shut, Collect, Settle, Load, Unload, Disable, Work, Enable}
+use Rattle.ms_model.specs.declared.notes.Act.TheVariants.{Grant, Free, Unalloc, Collect, Settle, Work}
 use Rattle.ms_model.specs.declared.notes.Noted.{Noted}
-use Rattle.ms_model.proofs.Histories.{held_act, last_act-push, held_act-push, settled_group-push, collected_group-push, is_gained-push, is_given-push, by_legal}
-use Rattle.ms_model.proofs.UnitFacts.{Sits, sits, Apart, Facts, vacant_apart, same_cond, or-false, and-false, facts_grant, facts_free, facts_unalloc, facts_settle}
-
-pub true_and : (a b : Bool) → (a && b) ≡ true → (a ≡ true) × (b ≡ true)
-true_and true b e = (refl, e)
-true_and false b e = cc
-
--- the test of a unit tells that the segment covers it
-pub covers_true : (seg : Seg) (u : ℕ) → covers seg u ≡ true → Covers seg u
-covers_true seg u e =
-    let both : (nat_le seg.start u ≡ true) × (nat_lt u (end_of seg) ≡ true) = true_and _ _ e in
-    (leb-true _ _ both.0, ltb-true _ _ both.1)
-
-pub not_true : (b : Bool) → not b ≡ true → b ≡ false
-not_true true e = cc
-not_true false e = refl
+use Rattle.ms_model.proofs.Histories.{held_act, last_act-push, held_act-push, settled_group-push, collected_group-push, is_gained-push, is_given-push, legal_before, by_legal}
+use Rattle.ms_model.proofs.UnitFacts.{Sits, sits, Apart, Facts, vacant_apart, facts_grant, facts_free, facts_unalloc, facts_settle}
 
 abbrev pub FactsOf : Origin → List Noted → ℕ → ℕ → Type 0
 FactsOf o h t u =
@@ -62,9 +48,9 @@ grant_case : (t opened s c g lane : ℕ) (b x y z : Bool) → Sits g t x y z →
     → Facts t opened s c (cond b (granted (Some lane) g) last) (cond x (cond b (granted (Some lane) g) low) low)
     (cond y (cond b (granted (Some lane) g) upto) upto) (cond (z && b) true gained) (given || false)
 grant_case t opened s c g lane true x y z sit last low upto gained given fresh vacant f =
-    rw (or-false given) (facts_grant t opened s c g lane x y z sit last low upto gained given fresh (vacant refl) f)
+    rw (or_false given) (facts_grant t opened s c g lane x y z sit last low upto gained given fresh (vacant refl) f)
 grant_case t opened s c g lane false x y z sit last low upto gained given fresh vacant f =
-    rw (or-false given) (rw (and-false z) (rw (same_cond x low) (rw (same_cond y upto) f)))
+    rw (or_false given) (rw (and_false z) (rw (same_cond x low) (rw (same_cond y upto) f)))
 
 free_case : (t opened s c g : ℕ) (b x y z : Bool) → Sits g t x y z → (last low upto : LastAct) (gained given : Bool)
     → c < g → (b ≡ true → IsGrantedBy g last) → Facts t opened s c last low upto gained given
@@ -72,27 +58,27 @@ free_case : (t opened s c g : ℕ) (b x y z : Bool) → Sits g t x y z → (last
 free_case t opened s c g true x y z sit last low upto gained given fresh live f =
     facts_free t opened s c g x y z sit last low upto gained given fresh (live refl) f
 free_case t opened s c g false x y z sit last low upto gained given fresh live f =
-    rw (and-false z) (rw (or-false given) (rw (same_cond x low) (rw (same_cond y upto) f)))
+    rw (and_false z) (rw (or_false given) (rw (same_cond x low) (rw (same_cond y upto) f)))
 
 unalloc_case : (t opened s c g lane : ℕ) (b x y z : Bool) → Sits g t x y z → (last low upto : LastAct) (gained given : Bool)
     → c < g → (b ≡ true → last ≡ granted (Some lane) g) → Facts t opened s c last low upto gained given
     → Facts t opened s c (cond b taken_back last) (cond x (cond b taken_back low) low)
     (cond y (cond b taken_back upto) upto) (cond (z && b) false gained) (given || false)
 unalloc_case t opened s c g lane true x y z sit last low upto gained given fresh own f =
-    rw (or-false given) (facts_unalloc t opened s c g lane x y z sit low upto gained given fresh (rw (own refl) at f))
+    rw (or_false given) (facts_unalloc t opened s c g lane x y z sit low upto gained given fresh (rw (own refl) at f))
 unalloc_case t opened s c g lane false x y z sit last low upto gained given fresh own f =
-    rw (or-false given) (rw (and-false z) (rw (same_cond x low) (rw (same_cond y upto) f)))
+    rw (or_false given) (rw (and_false z) (rw (same_cond x low) (rw (same_cond y upto) f)))
 
 -- an act that changes no unit
 
 quiet_case : (t opened s c s' c' : ℕ) (x y : Bool) (last low upto : LastAct) (gained given : Bool) → s ≤ s' → s' ≤ c'
     → Facts t opened s c last low upto gained given → Facts t opened s' c' last (cond x low low) (cond y upto upto) gained (given || false)
 quiet_case t opened s c s' c' x y last low upto gained given le order f =
-    rw (or-false given) (rw (same_cond x low) (rw (same_cond y upto) (facts_settle t opened s c last low upto gained given s' c' le order f)))
+    rw (or_false given) (rw (same_cond x low) (rw (same_cond y upto) (facts_settle t opened s c last low upto gained given s' c' le order f)))
 
 same_facts : (t opened s c : ℕ) (last low upto : LastAct) (gained given : Bool)
     → Facts t opened s c last low upto gained given → Facts t opened s c last low upto gained (given || false)
-same_facts t opened s c last low upto gained given f = rw (or-false given) f
+same_facts t opened s c last low upto gained given f = rw (or_false given) f
 
 facts_do : (o : Origin) (h : List Noted) (t u lane : ℕ) (act : Act) → MayDo o h lane act → FactsOf o h t u → FactsAfter o h t u lane act
 facts_do o h t u lane (Grant group seg) may f =
@@ -104,15 +90,9 @@ facts_do o h t u lane (Free group seg) may f =
 facts_do o h t u lane (Unalloc group seg) may f =
     unalloc_case t _ _ _ group.0 lane (covers seg u) _ _ _ (sits group.0 t) _ _ _ _ _ may.open_group.above
     (λ e. may.own u (covers_true seg u e)) f
-facts_do o h t u lane (Miss count) may f = same_facts t _ _ _ _ _ _ _ _ f
-facts_do o h t u lane Shut may f = same_facts t _ _ _ _ _ _ _ _ f
 facts_do o h t u lane (Collect group) may f = quiet_case t _ _ _ _ _ _ _ _ _ _ _ _ (omega arith) (omega (arith, f.order)) f
 facts_do o h t u lane (Settle group) may f = quiet_case t _ _ _ _ _ _ _ _ _ _ _ _ (omega arith) may.1 f
-facts_do o h t u lane Load may f = same_facts t _ _ _ _ _ _ _ _ f
-facts_do o h t u lane Unload may f = same_facts t _ _ _ _ _ _ _ _ f
-facts_do o h t u lane (Disable worker) may f = same_facts t _ _ _ _ _ _ _ _ f
-facts_do o h t u lane (Work worker kind seg) may f = same_facts t _ _ _ _ _ _ _ _ f
-facts_do o h t u lane (Enable worker) may f = same_facts t _ _ _ _ _ _ _ _ f
+facts_do o h t u lane _ may f = same_facts t _ _ _ _ _ _ _ _ f
 
 -- before the first note
 
@@ -157,3 +137,14 @@ vacant_free o h u legal vacant =
       deferred = rw idle refl;
       retained = λ t from. vacant_apart t o.opened (settled_group o h) _ _ idle (unit_facts o h t u legal).apart from;
     }
+
+-- what a legal history takes is free of all
+taken_free : (o : Origin) (h : List Noted) (lane : ℕ) (act : Act) (u : ℕ) → IsLegal o h → MayDo o h lane act → Takes act u → IsFreeOfAll o h u
+taken_free o h lane (Grant group seg) u legal may takes = vacant_free o h u legal (may.vacant u takes)
+taken_free o h lane (Work worker kind seg) u legal may takes = vacant_free o h u legal (may.vacant u takes)
+taken_free o h lane _ u legal may takes = absurd takes
+
+pub overlaps_nothing : GrantsOverlapNothing
+overlaps_nothing o h legal before note rest u is takes =
+    taken_free o before note.lane note.act u
+    (legal_before o before (note ∷ rest) (subst (IsLegal o) (sym is) legal)) (legal before note rest is) takes

@@ -14,18 +14,18 @@ use Rattle.zms_units.proofs.Along.{SameBelow, same_back, fit_along, row_along}
 use Rattle.zms_units.specs.declared.segments.Seg.{Seg}
 use Rattle.zms_units.specs.Runs.{IsFit, NoneInRow}
 use Rattle.zms_units.specs.Cursors.{cursor_of}
-use Rattle.zms_units.proofs.UnitTests.{le_or}
+use Rattle.zms_units.proofs.Bools.{le_or}
 use Rattle.ms_model.specs.Origin.{Origin}
 use Rattle.ms_model.specs.Units.{LastAct, granted, untouched, act_on, last_act, settled_by, collected_by, loaded_by, disabled_by}
 use Rattle.ms_model.specs.Spaces.{keeps_busy, is_vacant}
 use Rattle.ms_model.specs.Cursors.{cursor_by, cursor_at}
 use Rattle.ms_model.specs.Legal.{ChangesAbove, IsWithin, MayDo, IsLegal}
 use Rattle.ms_model.specs.declared.notes.Act.{Act}
-use Rattle.ms_model.specs.declared.notes.Act.TheVariants.{Grant, Free, Unalloc, Miss, Shut, Collect, Settle, Load, Unload, Disable, Work, Enable}
+use Rattle.ms_model.specs.declared.notes.Act.TheVariants.{Grant, Free, Unalloc}
 use Rattle.ms_model.specs.declared.notes.Noted.{Noted}
 use Rattle.ms_model.specs.declared.checking.Checker.{Checker}
 use Rattle.ms_model.specs.Checking.{Decides, act_at, vacant_in, changed_by, changed_group, Reflects, TakesIn, IsTable, LiesWithin, IsFirstIllegal, origin_from}
-use Rattle.ms_model.proofs.RunLooks.{has_cursor}
+use Rattle.zms_units.proofs.CursorPlaces.{cursor_below}
 use Rattle.ms_model.proofs.Histories.{last_act-push, settled_group-push, collected_group-push, is_loaded-push, worker_at-push, cursor_at-push, legal_push}
 
 -- a vacant unit of the table is one of the journal
@@ -50,7 +50,7 @@ module _ (o : Origin) (h : List Noted) (c : Checker) where
       let some = within.some in
       let end = within.within in
       let most = table.most in
-      let cursor = r.cursors (cursor_of seg.count) (has_cursor seg.count some (omega arith)) in
+      let cursor = r.cursors (cursor_of seg.count) (cursor_below seg.count some (omega arith)) in
       let of_units : Decides answer (IsFit (vacant_in c) o.units c.ashift (slice_index c.cursors (cursor_of seg.count)) seg.count seg) = rw r.units at d in
       let of_shift : Decides answer (IsFit (vacant_in c) o.units o.ashift (slice_index c.cursors (cursor_of seg.count)) seg.count seg) = rw r.shift at of_units in
       let here : Decides answer (IsFit (vacant_in c) o.units o.ashift (cursor_at h (cursor_of seg.count)) seg.count seg) = rw cursor at of_shift in
@@ -86,29 +86,13 @@ step_low : (s so_far : ℕ) (act : Act) → changed_by so_far act ≤ s → so_f
 step_low s so_far (Grant group seg) h = omega arith
 step_low s so_far (Free group seg) h = omega arith
 step_low s so_far (Unalloc group seg) h = omega arith
-step_low s so_far (Miss _) h = h
-step_low s so_far Shut h = h
-step_low s so_far (Collect _) h = h
-step_low s so_far (Settle _) h = h
-step_low s so_far Load h = h
-step_low s so_far Unload h = h
-step_low s so_far (Disable _) h = h
-step_low s so_far (Work _ _ _) h = h
-step_low s so_far (Enable _) h = h
+step_low s so_far _ h = h
 
 step_settled : (s so_far : ℕ) (act : Act) → changed_by so_far act ≤ s → ChangesAbove s act → ⊥
 step_settled s so_far (Grant group seg) h above = omega arith
 step_settled s so_far (Free group seg) h above = omega arith
 step_settled s so_far (Unalloc group seg) h above = omega arith
-step_settled s so_far (Miss _) h above = above
-step_settled s so_far Shut h above = above
-step_settled s so_far (Collect _) h above = above
-step_settled s so_far (Settle _) h above = above
-step_settled s so_far Load h above = above
-step_settled s so_far Unload h above = above
-step_settled s so_far (Disable _) h above = above
-step_settled s so_far (Work _ _ _) h above = above
-step_settled s so_far (Enable _) h above = above
+step_settled s so_far _ h above = above
 
 step_high : (s so_far : ℕ) (act : Act) → so_far ≤ s → (ChangesAbove s act → ⊥) → changed_by so_far act ≤ s
 step_high s so_far (Grant group seg) h none = by_order (le_or group.0 s) where
@@ -123,15 +107,7 @@ step_high s so_far (Unalloc group seg) h none = by_order (le_or group.0 s) where
   by_order : (group.0 ≤ s) ⊎ (s < group.0) → max so_far group.0 ≤ s
   by_order (inl le) = omega arith
   by_order (inr lt) = absurd (none lt)
-step_high s so_far (Miss _) h none = h
-step_high s so_far Shut h none = h
-step_high s so_far (Collect _) h none = h
-step_high s so_far (Settle _) h none = h
-step_high s so_far Load h none = h
-step_high s so_far Unload h none = h
-step_high s so_far (Disable _) h none = h
-step_high s so_far (Work _ _ _) h none = h
-step_high s so_far (Enable _) h none = h
+step_high s so_far _ h none = h
 
 -- no note changes anything in a later group
 abbrev Quiet_above : ℕ → List Noted → Type 0
@@ -172,15 +148,7 @@ pub may_lie : (o : Origin) (h : List Noted) (lane : ℕ) (act : Act) → MayDo o
 may_lie o h lane (Grant group seg) may = may.within
 may_lie o h lane (Free group seg) may = may.within
 may_lie o h lane (Unalloc group seg) may = may.within
-may_lie o h lane (Miss _) may = tt
-may_lie o h lane Shut may = tt
-may_lie o h lane (Collect _) may = tt
-may_lie o h lane (Settle _) may = tt
-may_lie o h lane Load may = tt
-may_lie o h lane Unload may = tt
-may_lie o h lane (Disable _) may = tt
-may_lie o h lane (Work _ _ _) may = tt
-may_lie o h lane (Enable _) may = tt
+may_lie o h lane _ may = tt
 
 -- the table before the first note, with one more segment of the base
 

@@ -1,42 +1,15 @@
 -- What a look for some maximal run decides.
-use Rattle.std.proofs.Common.{◌≡◌, ℕ, zero, suc, ◌+◌, ◌*◌, ◌/◌, ◌^◌, ◌≤◌, ◌<◌, Bool, true, false, cond, List, ◌∷◌, refl, sym, ap, ◌∙◌, subst, arith, ◌⊎◌, inl, inr}
+use Rattle.std.proofs.Common.{◌≡◌, ℕ, ◌*◌, ◌/◌, ◌^◌, ◌≤◌, ◌<◌, Bool, true, false, refl, sym, ap, ◌∙◌, subst, arith, ◌⊎◌, inl, inr}
 use Rattle.std.specs.Prelude.{not, nat_le}
-use Rattle.std.specs.List.{count_by, range_with_len}
-use Rattle.std.specs.Int.{w32}
 use Rattle.std.proofs.lemmas.Bool.{leb-true, le-leb}
-use Rattle.std.proofs.lemmas.Nat.Bits.{bit_at-trailing_zeros, bit_at_above}
-use Rattle.std.proofs.lemmas.List.Sums.{sum_by-cons}
 use Rattle.zms_units.specs.declared.segments.Seg.{Seg}
 use Rattle.zms_units.specs.Segments.{end_of}
 use Rattle.zms_units.specs.Runs.{units_in, IsMaximalRun, IsAmple, IsNext, IsBest, IsFit, NoneInRow}
-use Rattle.zms_units.specs.Cursors.{cursor_of}
-use Rattle.zms_units.proofs.UnitTests.{le_or}
+use Rattle.zms_units.proofs.Bools.{le_or}
 use Rattle.zms_units.proofs.Maximal.{ends_last}
 use Rattle.zms_units.proofs.Rows.{none_in_row}
 use Rattle.zms_units.proofs.Fits.{fit_long}
 use Rattle.ms_model.specs.Checking.{Decides, LiesBetween}
-
-count_cons : (p : ℕ → Bool) (x : ℕ) (xs : List ℕ) → count_by p (x ∷ xs) ≡ cond (p x) 1 0 + count_by p xs
-count_cons p x xs = sum_by-cons (λ y. cond (p y) 1 0) x xs
-
-count_more : (p : ℕ → Bool) (low n next at : ℕ) → n + 1 ≡ next → low + n ≡ at → count_by p (range_with_len low next) ≡ count_by p (range_with_len low n) + cond (p at) 1 0
-count_more p low zero zero at e f = absurd (omega arith)
-count_more p low zero (suc zero) at e f =
-    let same : low ≡ at = omega arith in
-    subst (λ k. count_by p (range_with_len low 1) ≡ count_by p (range_with_len low 0) + cond (p k) 1 0) same (omega (arith, count_cons p low (range_with_len (low + 1) 0)))
-count_more p low zero (suc (suc next)) at e f = absurd (omega arith)
-count_more p low (suc n) zero at e f = absurd (omega arith)
-count_more p low (suc n) (suc next) at e f =
-    omega (
-      arith,
-      count_cons p low (range_with_len (low + 1) next),
-      count_cons p low (range_with_len (low + 1) n),
-      count_more p (low + 1) n next at (omega arith) (omega arith),
-    )
-
--- one unit more
-pub units_more : (p : ℕ → Bool) (n : ℕ) → units_in p (n + 1) ≡ units_in p n + cond (p n) 1 0
-units_more p n = count_more p 0 n (n + 1) n (omega arith) (omega arith)
 
 -- two maximal runs that begin together are one
 pub same_run : (set : ℕ → Bool) (units : ℕ) (run other : Seg) → IsMaximalRun set units run → IsMaximalRun set units other → run.start ≡ other.start → run ≡ other
@@ -76,15 +49,6 @@ module _ (set : ℕ → Bool) (units : ℕ) (small : units ≤ 131072) where
             d.fails refl (run, (long.maximal, ((omega arith, omega arith), (omega arith, omega arith)))));
         fails = λ e. cc;
       }
-
--- there is a cursor for each count
-pub has_cursor : (count : ℕ) → 0 < count → count ≤ 131072 → cursor_of count < 18
-has_cursor count some most = by_order (le_or 18 (cursor_of count)) where
-  by_order : (18 ≤ cursor_of count) ⊎ (cursor_of count < 18) → cursor_of count < 18
-  by_order (inr h) = h
-  by_order (inl h) =
-      let t = bit_at-trailing_zeros w32 count some (omega arith) in
-      absurd (omega (arith, t.1, bit_at_above count 18 (cursor_of count) (omega arith) h))
 
 -- the run of a fit is the one that begins where the fit does
 pub fit_run : (set : ℕ → Bool) (units ashift cursor count : ℕ) (seg run : Seg) → IsMaximalRun set units run → run.start ≡ seg.start → (f : IsFit set units ashift cursor count seg) → run ≡ f.run

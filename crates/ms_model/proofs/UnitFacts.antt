@@ -5,6 +5,7 @@ use Rattle.std.proofs.Common.{◌≡◌, ℕ, ◌+◌, ◌-◌, ◌≤◌, ◌<�
 use Rattle.std.specs.Prelude.{◌||◌, ◌&&◌, not, max, nat_le, ◌==◌}
 use Rattle.std.proofs.lemmas.Bool.{ltb-false}
 use Rattle.std.proofs.lemmas.Bool.Decides.{nat_tests}
+use Rattle.zms_units.proofs.Bools.{and_false, or_false}
 use Rattle.ms_model.specs.Units.{LastAct, granted, freed, taken_back, untouched, is_grant}
 use Rattle.ms_model.specs.Spaces.{keeps_busy}
 use Rattle.ms_model.specs.Legal.{IsGrantedBy}
@@ -63,21 +64,9 @@ pub is_false : (b : Bool) → (b ≡ true → ⊥) → b ≡ false
 is_false true f = absurd (f refl)
 is_false false f = refl
 
-pub same_cond : {A : Type 0} (b : Bool) (x : A) → cond b x x ≡ x
-same_cond true x = refl
-same_cond false x = refl
-
-pub or-false : (b : Bool) → (b || false) ≡ b
-or-false true = refl
-or-false false = refl
-
 or-true : (b : Bool) → (b || true) ≡ true
 or-true true = refl
 or-true false = refl
-
-pub and-false : (b : Bool) → (b && false) ≡ false
-and-false true = refl
-and-false false = refl
 
 -- what a vacant unit's last act is
 
@@ -125,9 +114,9 @@ grant_gains t g s x y z (above h) lane last gained none near is = absurd (let ol
 free_adds : (t g : ℕ) (x y z : Bool) → Sits g t x y z → (low upto : LastAct) (gained given : Bool)
     → (g ≤ t → gained ≡ false) → is_grant upto ≡ (not given && (gained || is_grant low))
     → is_grant (cond y (freed g) upto) ≡ (not (given || (z && true)) && (gained || is_grant (cond x (freed g) low)))
-free_adds t g x y z (below h) low upto gained given none adds = rw (none h) (sym (and-false (not (given || false))))
+free_adds t g x y z (below h) low upto gained given none adds = rw (none h) (sym (and_false (not (given || false))))
 free_adds t g x y z (at h) low upto gained given none adds = rw (or-true given) refl
-free_adds t g x y z (above h) low upto gained given none adds = rw (or-false given) adds
+free_adds t g x y z (above h) low upto gained given none adds = rw (or_false given) adds
 
 free_apart : (t g : ℕ) (x y z : Bool) → Sits g t x y z → (low : LastAct) → g ≤ t → is_grant (cond x (freed g) low) ≡ false
 free_apart t g x y z (below h) low le = refl
@@ -135,17 +124,17 @@ free_apart t g x y z (at h) low le = absurd (omega arith)
 free_apart t g x y z (above h) low le = absurd (omega arith)
 
 free_gifts : (t g : ℕ) (x y z : Bool) → Sits g t x y z → (given : Bool) → (given ≡ true → ⊥) → (given || (z && true)) ≡ true → g ≡ t + 1
-free_gifts t g x y z (below h) given none is = absurd (none (sym (or-false given) ∙ is))
+free_gifts t g x y z (below h) given none is = absurd (none (sym (or_false given) ∙ is))
 free_gifts t g x y z (at h) given none is = h
-free_gifts t g x y z (above h) given none is = absurd (none (sym (or-false given) ∙ is))
+free_gifts t g x y z (above h) given none is = absurd (none (sym (or_false given) ∙ is))
 
 -- a take-back
 
 unalloc_adds : (t g : ℕ) (x y z : Bool) → Sits g t x y z → (low upto : LastAct) (gained given : Bool)
     → (g ≤ t → gained ≡ false) → (g ≡ t + 1 → is_grant low ≡ false) → is_grant upto ≡ (not given && (gained || is_grant low))
     → is_grant (cond y taken_back upto) ≡ (not given && (cond (z && true) false gained || is_grant (cond x taken_back low)))
-unalloc_adds t g x y z (below h) low upto gained given none apart adds = rw (none h) (sym (and-false (not given)))
-unalloc_adds t g x y z (at h) low upto gained given none apart adds = rw (apart h) (sym (and-false (not given)))
+unalloc_adds t g x y z (below h) low upto gained given none apart adds = rw (none h) (sym (and_false (not given)))
+unalloc_adds t g x y z (at h) low upto gained given none apart adds = rw (apart h) (sym (and_false (not given)))
 unalloc_adds t g x y z (above h) low upto gained given none apart adds = adds
 
 unalloc_apart : (t g m : ℕ) (x y z : Bool) → Sits g t x y z → (low : LastAct) → (m ≤ t → t < g → is_grant low ≡ false)

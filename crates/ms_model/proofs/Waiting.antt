@@ -8,28 +8,20 @@ use Rattle.std.proofs.lemmas.List.Elements.{All-head, All-tail}
 use Rattle.zms_units.specs.declared.segments.Seg.{Seg}
 use Rattle.zms_units.specs.declared.segments.Group.{Group}
 use Rattle.zms_units.specs.Segments.{Covers}
-use Rattle.zms_units.proofs.UnitTests.{covers_yes}
+use Rattle.zms_units.proofs.Covers.{covers_yes}
 use Rattle.ms_model.specs.Origin.{Origin}
 use Rattle.ms_model.specs.Units.{LastAct, granted, taken_back, freed, act_on, is_grant, last_act}
 use Rattle.ms_model.specs.Spaces.{keeps_busy}
 use Rattle.ms_model.specs.Laws.{Spares, FreesWait}
 use Rattle.ms_model.specs.declared.notes.Act.{Act}
-use Rattle.ms_model.specs.declared.notes.Act.TheVariants.{Grant, Free, Unalloc, Miss, Shut, Collect, Settle, Load, Unload, Disable, Work, Enable}
+use Rattle.ms_model.specs.declared.notes.Act.TheVariants.{Grant, Free, Unalloc}
 use Rattle.ms_model.specs.declared.notes.Noted.{Noted}
 
 spared : (u : ℕ) (so_far : LastAct) (lane : ℕ) (act : Act) → Spares u act → act_on u so_far lane act ≡ so_far
 spared u so_far lane (Grant group seg) e = ap (λ (b : Bool). if b then granted (Some lane) group.0 else so_far) e
 spared u so_far lane (Free group seg) e = ap (λ (b : Bool). if b then freed group.0 else so_far) e
 spared u so_far lane (Unalloc group seg) e = ap (λ (b : Bool). if b then taken_back else so_far) e
-spared u so_far lane (Miss _) e = refl
-spared u so_far lane Shut e = refl
-spared u so_far lane (Collect _) e = refl
-spared u so_far lane (Settle _) e = refl
-spared u so_far lane Load e = refl
-spared u so_far lane Unload e = refl
-spared u so_far lane (Disable _) e = refl
-spared u so_far lane (Work _ _ _) e = refl
-spared u so_far lane (Enable _) e = refl
+spared u so_far lane _ e = refl
 
 -- notes that don't change a unit's last act leave it
 fold_spared : (u : ℕ) (so_far : LastAct) (rest : List Noted) → All (λ (note : Noted). Spares u note.act) rest → fold (λ a (note : Noted). act_on u a note.lane note.act) so_far rest ≡ so_far

@@ -2,6 +2,7 @@
 use Rattle.std.specs.Prelude.{◌≡◌, ℕ, ◌+◌, ◌<◌, ◌≤◌, Bool, true, false, not, max, List, ◌∷◌, ◌++◌, length, get_or, slice_index}
 use Rattle.std.specs.List.{fold}
 use Rattle.zms_units.specs.declared.segments.Seg.{Seg}
+use Rattle.zms_units.specs.Limits.{MAX_UNITS, CURSORS, IsShift}
 use Rattle.zms_units.specs.Segments.{covered}
 use Rattle.ms_model.specs.Origin.{Origin}
 use Rattle.ms_model.specs.Units.{LastAct, granted, freed, taken_back, untouched, act_on, last_act, settled_by, settled_group, collected_by, collected_group, loaded_by, is_loaded, disabled_by, worker_at}
@@ -61,21 +62,21 @@ changed_group h = fold (λ so_far note. changed_by so_far note.act) 0 h
 -- what a checker keeps is what a journal says
 pub record Reflects (o : Origin) (h : List Noted) (c : Checker) : Type 0 where
   pub units : length c.lasts.items ≡ o.units
-  pub most : o.units ≤ 131072
+  pub most : o.units ≤ MAX_UNITS
   pub shift : c.ashift ≡ o.ashift
-  pub shifts : (9 ≤ o.ashift) × (o.ashift ≤ 12)
+  pub shifts : IsShift o.ashift
   pub acts : (u : ℕ) → u < o.units → act_at c.lasts.items u ≡ last_act o h u
   pub settled : c.settled.0 ≡ settled_group o h
   pub collected : c.collected.0 ≡ collected_group o h
   pub loaded : c.loaded ≡ is_loaded h
   pub worker : c.worker ≡ worker_at h
-  pub cursors : (number : ℕ) → number < 18 → slice_index c.cursors number ≡ cursor_at h number
+  pub cursors : (number : ℕ) → number < CURSORS → slice_index c.cursors number ≡ cursor_at h number
   pub changed : c.changed.0 ≡ changed_group h
 
 -- there are not too many units, and they have a size that a vdev may have
 pub record IsTable (c : Checker) : Type 0 where
-  pub most : length c.lasts.items ≤ 131072
-  pub shift : (9 ≤ c.ashift) × (c.ashift ≤ 12)
+  pub most : length c.lasts.items ≤ MAX_UNITS
+  pub shift : IsShift c.ashift
 
 -- the segment of an act that changes units lies within them
 abbrev pub LiesWithin : ℕ → Act → Type 0
@@ -93,7 +94,7 @@ pub record TakesIn (old new : Checker) (lane : ℕ) (act : Act) : Type 0 where
   pub collected : new.collected.0 ≡ collected_by old.collected.0 act
   pub loaded : new.loaded ≡ loaded_by old.loaded act
   pub worker : new.worker ≡ disabled_by old.worker act
-  pub cursors : (number : ℕ) → number < 18 → slice_index new.cursors number ≡ cursor_by number (slice_index old.cursors number) act
+  pub cursors : (number : ℕ) → number < CURSORS → slice_index new.cursors number ≡ cursor_by number (slice_index old.cursors number) act
   pub changed : new.changed.0 ≡ changed_by old.changed.0 act
 
 -- a metaslab's journal begins so

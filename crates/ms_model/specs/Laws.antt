@@ -12,7 +12,6 @@ use Rattle.ms_model.specs.Counts.{live_units, deferred_units, vacant_units}
 use Rattle.ms_model.specs.declared.notes.Act.{Act}
 use Rattle.ms_model.specs.declared.notes.Act.TheVariants.{Grant, Free, Unalloc, Work}
 use Rattle.ms_model.specs.declared.notes.Noted.{Noted}
-use Rattle.ms_model.specs.declared.notes.WorkKind.{WorkKind}
 use Rattle.zms_units.specs.declared.segments.Group.{Group}
 
 -- a unit is neither handed out, nor waiting to be vacant, nor held by a group from which the pool may still be opened
@@ -21,19 +20,19 @@ pub record IsFreeOfAll (o : Origin) (h : List Noted) (u : ℕ) : Type 0 where
   pub deferred : is_deferred o h u ≡ false
   pub retained : (t : ℕ) → max o.opened (settled_group o h - 2) ≤ t → held o h t u ≡ false
 
--- in a legal history each unit of a grant was free of all just before it
-abbrev pub GrantsOverlapNothing : Type 0
-GrantsOverlapNothing =
-    (o : Origin) (before : List Noted) (lane : ℕ) (group : Group) (seg : Seg) (rest : List Noted)
-    → IsLegal o (before ++ (record { lane = lane; act = Grant group seg } ∷ rest))
-    → (u : ℕ) → Covers seg u → IsFreeOfAll o before u
+-- an act hands a unit out, or lets a worker take it
+abbrev pub Takes : Act → ℕ → Type 0
+Takes (Grant _ seg) u = Covers seg u
+Takes (Work _ _ seg) u = Covers seg u
+Takes _ u = ⊥
 
--- and so was each unit that a worker took
-abbrev pub WorkOverlapsNothing : Type 0
-WorkOverlapsNothing =
-    (o : Origin) (before : List Noted) (lane worker : ℕ) (kind : WorkKind) (seg : Seg) (rest : List Noted)
-    → IsLegal o (before ++ (record { lane = lane; act = Work worker kind seg } ∷ rest))
-    → (u : ℕ) → Covers seg u → IsFreeOfAll o before u
+-- each unit that a note takes was free of all just before it
+abbrev pub TakesFreeUnits : Origin → List Noted → Type 0
+TakesFreeUnits o h = (before : List Noted) (note : Noted) (rest : List Noted) (u : ℕ) → before ++ (note ∷ rest) ≡ h → Takes note.act u → IsFreeOfAll o before u
+
+-- and in a legal history all are
+abbrev pub GrantsOverlapNothing : Type 0
+GrantsOverlapNothing = (o : Origin) (h : List Noted) → IsLegal o h → TakesFreeUnits o h
 
 -- a unit is in exactly one of three states
 pub data IsOneOfThree (live deferred vacant : Bool) : Type 0 where

@@ -47,6 +47,12 @@ pub record MayShut (h : List Noted) : Type 0 where
   pub worker : ℕ
   pub disabled : worker_at h ≡ Some worker
 
+-- a unit is the lowest of a segment of which something does not hold
+pub record IsLowestLacking (Has : ℕ → Type 0) (seg : Seg) (unit : ℕ) : Type 0 where
+  pub inside : Covers seg unit
+  pub lacks : Has unit → ⊥
+  pub below : (u : ℕ) → Covers seg u → u < unit → Has u
+
 -- the last act is a grant of a group of at most t
 abbrev pub IsGrantedBy : ℕ → LastAct → Type 0
 IsGrantedBy t (granted _ group) = group ≤ t

@@ -1,11 +1,15 @@
 -- What a journal says of one unit, and of the groups that were collected and settled.
-use Rattle.std.specs.Prelude.{ℕ, Bool, true, false, nat_le, if◌then◌else◌, Option, Some, None, List}
+use Rattle.std.specs.Prelude.{ℕ, Bool, true, false, nat_le, if◌then◌else◌, Option, Some, None, List, [], ◌∷◌, ◌++◌}
 use Rattle.std.specs.List.{fold, filter}
 use Rattle.zms_units.specs.Segments.{covers}
 use Rattle.ms_model.specs.Origin.{Origin}
 use Rattle.ms_model.specs.declared.notes.Act.{Act}
 use Rattle.ms_model.specs.declared.notes.Act.TheVariants.{Grant, Free, Unalloc, Collect, Settle, Load, Unload, Disable, Enable}
 use Rattle.ms_model.specs.declared.notes.Noted.{Noted}
+
+-- a journal with one more act of a lane
+abbrev pub noted : List Noted → ℕ → Act → List Noted
+noted h lane act = h ++ record { lane = lane; act = act } ∷ []
 
 -- the last act on a unit's space: a grant with its group, and its lane where it is one of this journal (the base counts
 -- as grants of the opened group); a free with its group; a grant that was taken back; or nothing at all

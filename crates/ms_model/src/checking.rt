@@ -4,18 +4,20 @@ ghost use Rattle.std.specs.Prelude.{if◌then◌else◌, max, ◌≡◌, ℕ, �
 ghost use Rattle.zms_units.specs.Segments.{Covers, covers, covered, AreSegs};
 ghost use Rattle.zms_units.specs.Runs.{IsFit, NoneInRow};
 ghost use Rattle.zms_units.specs.Cursors.{cursor_of};
+ghost use Rattle.zms_units.specs.Limits.{IsShift, IsUnitCount};
 ghost use Rattle.ms_model.specs.Cursors.{cursor_at};
 ghost use Rattle.ms_model.specs.Spaces.{is_vacant};
 ghost use Rattle.std.specs.List.{All};
 ghost use Rattle.ms_model.specs.Origin.{Origin};
 ghost use Rattle.ms_model.specs.Units.{granted, settled_group};
 ghost use Rattle.ms_model.specs.Legal.{IsWithin, IsOpenGroup, TakesRequests, IsGrantedBy, ChangesAbove, IsLegal, MayDo, MayGrant, MayMiss, MayShut, MayFree, MayTakeBack, MayUnload, MayDisable, MayWork, MayEnable};
+ghost use Rattle.ms_model.specs.Laws.{TakesFreeUnits};
 ghost use Rattle.ms_model.specs.Checking.{Decides, Reflects, IsTable, LiesWithin, TakesIn, IsFirstIllegal, origin_from, act_at, act_of, vacant_in};
 ghost use Rattle.ms_model.specs.declared.notes.Noted.{Noted};
 
 use crate::{Act, Noted};
 use std::alloc::{AllocError, Global};
-use zms_units::{Group, MAX_UNITS, Seg};
+use zms_units::{CURSORS, Group, MAX_UNITS, Seg, cursor_place};
 
 /// The last act on a unit's space.
 #[derive(Clone, Copy, Debug, PartialEq, Eq)]
@@ -36,7 +38,7 @@ pub(crate) struct Checker {
     pub(crate) collected: Group,
     pub(crate) loaded: bool,
     pub(crate) worker: Option<u8>,
-    pub(crate) cursors: [u32; 18],
+    pub(crate) cursors: [u32; CURSORS],
     // The greatest group of a grant, free or take-back, 0 if there is none.
     pub(crate) changed: Group,
 }
@@ -295,7 +297,7 @@ impl Checker {
             Act::Grant { group, seg } => {
                 let lane = Some(note.lane);
                 self.change(group, seg, Last::Granted { lane, group });
-                self.cursors[seg.count.trailing_zeros() as usize] = seg.start + seg.count;
+                self.cursors[cursor_place(seg.count)] = seg.start + seg.count;
             }
             Act::Free { group, seg } => self.change(group, seg, Last::Freed { group }),
             Act::Unalloc { group, seg } => self.change(group, seg, Last::TakenBack),
@@ -303,7 +305,7 @@ impl Checker {
             Act::Settle { group } => self.settled = group,
             Act::Load => {
                 self.loaded = true;
-                self.cursors = [0; 18];
+                self.cursors = [0; CURSORS];
             }
             Act::Unload => self.loaded = false,
             Act::Disable { worker } => self.worker = Some(worker),
@@ -321,7 +323,7 @@ impl Checker {
         opened: Group,
     ) -> Result<Checker, AllocError>
         requires units { units ≤ MAX_UNITS }
-        requires shift { (9 ≤ ashift) × (ashift ≤ 12) }
+        requires shift { IsShift ashift }
         requires base { AreSegs units base.now }
         ensures { IfOk result (Reflects (origin_from base.now units ashift opened.0) []) }
     {
@@ -332,7 +334,7 @@ impl Checker {
             collected: opened,
             loaded: false,
             worker: None,
-            cursors: [0; 18],
+            cursors: [0; CURSORS],
             changed: Group(0),
         };
         for seg in base {
@@ -347,7 +349,8 @@ impl Checker {
 }
 
 /// The place, from 1, of the first note of a metaslab's journal that may not follow those before it, `None` where the
-/// journal is a legal history. `base` is what the group that was opened holds of its units, which have `2^ashift` bytes.
+/// journal is a legal history. Then no unit that was handed out or that a worker took was live or deferred, or held by a
+/// group from which the pool may still be opened. `base` is what the group that was opened holds of its units, which have `2^ashift` bytes.
 ///
 /// It looks each note up in a table of the units, and rests on no part of the metaslab. Costs the units for each grant,
 /// miss and worker's segment, and beside it what the notes cover.
@@ -359,10 +362,11 @@ pub fn legal(
     opened: Group,
     notes: &[Noted],
 ) -> Result<Option<u64>, AllocError>
-    requires units { (64 ≤ units) × (units ≤ MAX_UNITS) }
-    requires shift { (9 ≤ ashift) × (ashift ≤ 12) }
+    requires units { IsUnitCount units }
+    requires shift { IsShift ashift }
     requires base { AreSegs units base.now }
     ensures legal { IfOk result (λ found. IfNone found (IsLegal (origin_from base.now units ashift opened.0) notes.now)) }
+    ensures free { IfOk result (λ found. IfNone found (TakesFreeUnits (origin_from base.now units ashift opened.0) notes.now)) }
     ensures complete { IsLegal (origin_from base.now units ashift opened.0) notes.now → IfOk result (λ found. found ≡ None) }
     ensures first { IfOk result (λ found. IfSome found (IsFirstIllegal (origin_from base.now units ashift opened.0) notes.now)) }
 {

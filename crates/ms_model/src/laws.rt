@@ -1,16 +1,12 @@
 //! Laws of the definitions: each function does nothing, and its contract is the law.
 
-ghost use Rattle.ms_model.specs.Laws.{GrantsOverlapNothing, WorkOverlapsNothing, StatesAreApart, TotalsAddUp, BeginningsAreLegal, GroupsAddUp, FreesWait};
-ghost use Rattle.ms_model.specs.Places.{LaneNotesAreItsSteps, GateNotesAreItsSteps, PlacesNeverFall, GatePlacesNeverFall, PlacesAreWithin, GatePlacesAreWithin, OpenGroupCountsClosings, OpenGroupNeverFalls, OpenGroupIsWithin};
+ghost use Rattle.ms_model.specs.Laws.{GrantsOverlapNothing, StatesAreApart, TotalsAddUp, BeginningsAreLegal, GroupsAddUp, FreesWait};
+ghost use Rattle.ms_model.specs.Places.{PartsAreOfRights, GatePartsAreOfRights, LaneNotesAreItsSteps, GateNotesAreItsSteps, KeeperNotesAreItsSteps, SettlingsAreKeepersSteps, PlacesNeverFall, GatePlacesNeverFall, PlacesAreWithin, GatePlacesAreWithin, OpenGroupCountsClosings, OpenGroupNeverFalls, OpenGroupIsWithin};
 
-/// In a legal history no unit of a grant is live, deferred, or held by a group that may still be opened.
+/// In a legal history no unit of a grant, or of a segment that a worker takes, is live, deferred, or held by a group that
+/// may still be opened.
 pub fn grants_overlap_nothing()
     ensures { GrantsOverlapNothing }
-{}
-
-/// The same of each segment that a worker takes.
-pub fn work_overlaps_nothing()
-    ensures { WorkOverlapsNothing }
 {}
 
 /// Each unit is exactly one of live, deferred and vacant.
@@ -38,10 +34,23 @@ pub fn frees_wait()
     ensures { FreesWait }
 {}
 
+/// The notes that need a lane's number as their right are the lane's part of a journal, and those that need the right 0
+/// are the keeper's part, where each note has a lane.
+pub fn parts_are_of_rights()
+    ensures metaslab { PartsAreOfRights }
+    ensures gate { GatePartsAreOfRights }
+{}
+
 /// A lane's notes in a journal are those of its steps, in order.
 pub fn lane_notes_are_its_steps()
     ensures metaslab { LaneNotesAreItsSteps }
     ensures gate { GateNotesAreItsSteps }
+{}
+
+/// The keeper's notes are those of its steps, in order, whichever lanes asked for them.
+pub fn keeper_notes_are_its_steps()
+    ensures metaslab { KeeperNotesAreItsSteps }
+    ensures gate { SettlingsAreKeepersSteps }
 {}
 
 /// A later step of a lane stands at a later place, after the earlier step's note.

@@ -3,15 +3,13 @@
 ghost use Rattle.std.specs.Prelude.{◌≡◌, ℕ, ◌+◌, ◌<◌, ◌≤◌, true, false, length, slice_index, IfSome, IfNone};
 ghost use Rattle.zms_units.specs.Runs.{units_in, IsMaximalRun, IsAmple, IsNext, IsBest, IsFit, NoneInRow};
 ghost use Rattle.zms_units.specs.Cursors.{cursor_of};
+ghost use Rattle.zms_units.specs.Limits.{IsShift};
 ghost use Rattle.zms_units.specs.declared.segments.Seg.{Seg};
 ghost use Rattle.ms_model.specs.Legal.{IsWithin};
 ghost use Rattle.ms_model.specs.Checking.{Decides, LiesBetween, vacant_in};
 
 use crate::checking::Checker;
-use zms_units::{MAX_UNITS, Seg};
-
-/// The bytes of a run from which on space may be ample.
-const AMPLE_BYTES: u32 = 131_072;
+use zms_units::{AMPLE_BYTES, AMPLE_SHARE, MAX_UNITS, Seg, cursor_place};
 
 /// Which runs are looked for: those of `least` to `most` units that start at `from` or after it, and before `below`.
 #[derive(Clone, Copy, Debug)]
@@ -113,11 +111,11 @@ impl Checker {
     /// Is space ample?
     fn is_ample(&self) -> bool
         requires most { length self.now.lasts.items ≤ MAX_UNITS }
-        requires shift { (9 ≤ self.now.ashift) × (self.now.ashift ≤ 12) }
+        requires shift { IsShift self.now.ashift }
         ensures { Decides result (IsAmple (vacant_in self.now) (length self.now.lasts.items) self.now.ashift) }
     {
         self.has_run(Sought::long(AMPLE_BYTES >> self.ashift))
-            && self.units() <= 25 * self.vacant_count()
+            && self.units() <= AMPLE_SHARE * self.vacant_count()
     }
 
     /// Is a run, long enough for the count, the next one that is, at the cursor or else from the start?
@@ -127,7 +125,7 @@ impl Checker {
         requires run { IsMaximalRun (vacant_in self.now) (length self.now.lasts.items) run }
         ensures { Decides result (IsNext (vacant_in self.now) (length self.now.lasts.items) (slice_index self.now.cursors (cursor_of count)) count run) }
     {
-        let cursor = self.cursors[count.trailing_zeros() as usize];
+        let cursor = self.cursors[cursor_place(count)];
         let long = Sought::long(count);
         if cursor <= run.start {
             return !self.has_run(Sought {
@@ -169,7 +167,7 @@ impl Checker {
     /// Is the segment the one that the fit names for its count?
     pub(crate) fn is_fit(&self, seg: Seg) -> bool
         requires most { length self.now.lasts.items ≤ MAX_UNITS }
-        requires shift { (9 ≤ self.now.ashift) × (self.now.ashift ≤ 12) }
+        requires shift { IsShift self.now.ashift }
         requires within { IsWithin (length self.now.lasts.items) seg }
         ensures { Decides result (IsFit (vacant_in self.now) (length self.now.lasts.items) self.now.ashift (slice_index self.now.cursors (cursor_of seg.count)) seg.count seg) }
     {

@@ -59,7 +59,8 @@ pub enum Act {
     },
 }
 
-/// A note of a metaslab's journal: an act, and the lane that did it or asked for it, from 1.
+/// A note of a metaslab's journal: an act, and the lane whose command did it, 1 to `MAX_LANES`. Collect, settle, load and
+/// unload are the keeper's acts, told by their kind: they carry the lane that asked for them.
 #[derive(Clone, Copy, Debug, PartialEq, Eq)]
 pub struct Noted {
     pub lane: u8,

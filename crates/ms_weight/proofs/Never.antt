@@ -5,11 +5,11 @@ use Rattle.std.proofs.lemmas.List.Sums.{sum_by-cons}
 use Rattle.std.proofs.Math.Nat.{mul-le-mul_right}
 use Rattle.std.proofs.Math.Pow.{pow_mono, shr_mono}
 use Rattle.std.proofs.lemmas.Nat.{pow_pos, shl-shr}
-use Rattle.zms_units.specs.declared.places.Histogram.{Histogram}
+use Rattle.zms_units.specs.declared.histograms.Histogram.{Histogram}
 use Rattle.zms_units.specs.declared.segments.Seg.{Seg}
 use Rattle.zms_units.specs.Runs.{IsMaximalRun}
 use Rattle.zms_units.specs.Weights.{is_in_bucket, IsHistogramOf, IsWeightOf, PassesOver}
-use Rattle.zms_units.proofs.UnitTests.{le_or}
+use Rattle.zms_units.proofs.Bools.{le_or}
 use Rattle.zms_units.proofs.Maximal.{has_each}
 use Rattle.zms_units.proofs.Buckets.{Holds, BucketOf, bucket_of, in_bucket}
 use Rattle.ms_weight.specs.Laws.{NeverPassedOver}

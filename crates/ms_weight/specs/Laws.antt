@@ -1,6 +1,6 @@
 -- The laws of weights.
 use Rattle.std.specs.Prelude.{ℕ, ◌*◌, ◌^◌, ◌<◌, ◌≤◌, Bool}
-use Rattle.zms_units.specs.declared.places.Histogram.{Histogram}
+use Rattle.zms_units.specs.declared.histograms.Histogram.{Histogram}
 use Rattle.zms_units.specs.declared.segments.Seg.{Seg}
 use Rattle.zms_units.specs.Runs.{IsMaximalRun}
 use Rattle.zms_units.specs.Weights.{IsHistogramOf, IsWeightOf, PassesOver}

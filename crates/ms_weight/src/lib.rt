@@ -2,7 +2,8 @@
 //!
 //! A weight is a hint: it orders the search, and passes over a metaslab that cannot have a long enough run. To the
 //! layer above it promises that `weight_of` and `passes_over` are exactly what `zms_units` defines, and by
-//! `never_passed_over` that a metaslab with a run of enough bytes isn't passed over.
+//! `never_passed_over` that the weight of a set's histogram never passes over a length that one of its runs has. That
+//! a given histogram is that of a set is for its maker to prove.
 #![tactic(auto)]
 
 ghost use Rattle.std.specs.Prelude.{◌↔◌, ◌^◌, ◌<◌, ◌≤◌, IsTrue, IfSome, IfNone};

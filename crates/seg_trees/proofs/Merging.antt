@@ -8,7 +8,7 @@ use Rattle.zms_units.specs.Segments.{end_of, covers, covered}
 use Rattle.zms_units.specs.Apart.{AreApartFrom}
 use Rattle.seg_trees.specs.Sets.{IsSegment, AreDisjoint}
 use Rattle.seg_trees.specs.Pieces.{IsNextRun}
-use Rattle.zms_units.proofs.UnitTests.{le_or, same_not}
+use Rattle.zms_units.proofs.Bools.{le_or, same_not}
 use Rattle.zms_units.proofs.ApartRuns.{apart_next, covered_at}
 use Rattle.seg_trees.proofs.Places.{rise, run_fits}
 

@@ -7,8 +7,9 @@ use Rattle.std.proofs.lemmas.List.FromFn.{length-range_with_len}
 use Rattle.zms_units.specs.declared.segments.Seg.{Seg}
 use Rattle.zms_units.specs.Segments.{end_of, covers, covered}
 use Rattle.zms_units.specs.Runs.{units_in, begins_run}
-use Rattle.zms_units.proofs.UnitTests.{le_or, same_not, or_false, covers_true, covers_yes, covers_low}
-use Rattle.zms_units.proofs.Counting.{units_le, units_seg, units_none, units_same_below, run_count-length, run_count_same}
+use Rattle.zms_units.proofs.Bools.{le_or, same_not, or_false}
+use Rattle.zms_units.proofs.Covers.{covers_true, covers_yes, covers_low}
+use Rattle.zms_units.proofs.Counting.{count_cons, units_le, units_seg, units_none, units_same_below, run_count-length, run_count_same}
 use Rattle.seg_trees.specs.Sets.{Sets, range, nodes_of, all_nodes, IsSegment}
 use Rattle.seg_trees.proofs.Sizes.{range-is}
 
@@ -25,9 +26,6 @@ may_reserve sets n h =
       sum_most (λ tree. nodes_of (sets tree)) (λ tree. omega (arith, units_le (begins_run (sets tree)) range, range-is)) (range_with_len 0 13),
       length-range_with_len 0 13,
     )
-
-count_cons : (p : ℕ → Bool) (x : ℕ) (xs : List ℕ) → count_by p (x ∷ xs) ≡ cond (p x) 1 0 + count_by p xs
-count_cons p x xs = sum_by-cons (λ y. cond (p y) 1 0) x xs
 
 one_of : (a b c : Bool) → (a ≡ true → (b || c) ≡ true) → cond a 1 0 ≤ cond b 1 0 + cond c 1 0
 one_of false b c f = omega arith

@@ -8,7 +8,8 @@ use Rattle.zms_units.specs.declared.segments.Seg.{Seg}
 use Rattle.zms_units.specs.Segments.{end_of, covers, covered, Covers}
 use Rattle.zms_units.specs.Apart.{AreApartFrom}
 use Rattle.seg_trees.specs.Pieces.{Touches}
-use Rattle.zms_units.proofs.UnitTests.{le_or, true_and, or_cases, covers_true}
+use Rattle.zms_units.proofs.Bools.{le_or, true_and, or_cases}
+use Rattle.zms_units.proofs.Covers.{covers_true}
 use Rattle.zms_units.proofs.ApartRuns.{apart_at, LiesIn, lies_in}
 
 found_first : (r : Seg) (rs : List Seg) (u : ℕ) (d : Seg) → (covers r u ≡ true) ⊎ (covered rs u ≡ true)

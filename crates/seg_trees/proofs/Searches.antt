@@ -1,8 +1,6 @@
 -- What searches among runs that stand apart find.
-use Rattle.std.proofs.Common.{◌≡◌, ℕ, ◌+◌, ◌≤◌, ◌<◌, List, [], ◌∷◌, length, get_or, take, drop, ◌-◌, ◌∙◌, ap, length-drop, get_or-drop, max, refl, subst, arith, ◌⊎◌, inl, inr}
-use Rattle.std.specs.List.{sum_by}
+use Rattle.std.proofs.Common.{◌≡◌, ℕ, ◌+◌, ◌≤◌, ◌<◌, List, length, get_or, take, drop, ◌-◌, ◌∙◌, ap, length-drop, get_or-drop, max, refl, subst, arith, ◌⊎◌, inl, inr}
 use Rattle.std.proofs.lemmas.List.{take_all}
-use Rattle.std.proofs.lemmas.List.Sums.{sum_by-cons}
 use Rattle.zms_units.specs.declared.segments.Seg.{Seg}
 use Rattle.zms_units.specs.Segments.{end_of, covered}
 use Rattle.zms_units.specs.Apart.{AreApartFrom}
@@ -10,7 +8,7 @@ use Rattle.zms_units.specs.Runs.{IsFirstFrom, NoneFrom, IsLongFrom}
 use Rattle.std.specs.Prelude.{Option, Some, None, IfSome, IfNone, IsSome}
 use Rattle.seg_trees.specs.Pieces.{IsHolder}
 use Rattle.seg_trees.specs.Sets.{IsLowest, IsSegment, HoldsNone, HoldsAll}
-use Rattle.zms_units.proofs.UnitTests.{le_or}
+use Rattle.zms_units.proofs.Bools.{le_or}
 use Rattle.zms_units.proofs.ApartRuns.{apart_at, covered_at}
 use Rattle.seg_trees.proofs.Places.{met_from, bool_false, starts_rise}
 use Rattle.zms_units.proofs.Maximal.{maximal_at, maximal_is_at}
@@ -56,12 +54,6 @@ module _ (runs : List Seg) (apart : AreApartFrom 0 131073 runs) where
     none_found short other o = let t = long_place other o in omega (arith, short t.0 t.2 t.1, t.4)
 
 -- runs have no more units than they have room
-pub sum_fits : (low next : ℕ) (runs : List Seg) → AreApartFrom low next runs → low + sum_by (λ (r : Seg). r.count) runs ≤ next
-sum_fits low next [] a = omega arith
-sum_fits low next (r ∷ rs) a =
-    let e : sum_by (λ (s : Seg). s.count) (r ∷ rs) ≡ r.count + sum_by (λ (s : Seg). s.count) rs = sum_by-cons (λ (s : Seg). s.count) r rs in
-    omega (arith, sum_fits (end_of r + 1) next rs a.2)
-
 -- the runs from a place on
 pub tail_is : (runs : List Seg) (from : ℕ) → take (length runs - from) (drop from runs) ≡ drop from runs
 tail_is runs from = take_all (length runs - from) (drop from runs) (omega (arith, length-drop from runs))

@@ -12,7 +12,8 @@ use Rattle.zms_units.specs.Segments.{end_of, covers, covered, Covers}
 use Rattle.zms_units.specs.Apart.{AreApartFrom}
 use Rattle.seg_trees.specs.Pieces.{runs_of, Touches}
 use Rattle.seg_trees.specs.Sets.{IsSegment}
-use Rattle.zms_units.proofs.UnitTests.{le_or, or_cases, or_left, or_right, or_false, or_assoc, covers_true, covers_yes, covers_none}
+use Rattle.zms_units.proofs.Bools.{le_or, or_cases, or_left, or_right, or_false, or_assoc}
+use Rattle.zms_units.proofs.Covers.{covers_true, covers_yes, covers_none}
 use Rattle.zms_units.proofs.ApartRuns.{apart_at, apart_low, apart_order, apart_below, apart_above, apart_next, apart_push, covered_at}
 use Rattle.seg_trees.proofs.Places.{covered_found, rise, starts_rise, run_fits}
 

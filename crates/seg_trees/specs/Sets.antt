@@ -3,15 +3,16 @@ use Rattle.std.specs.Prelude.{◌≡◌, ℕ, ◌+◌, ◌<◌, ◌≤◌, Bool,
 use Rattle.std.specs.List.{sum_by, range_with_len}
 use Rattle.zms_units.specs.declared.segments.Seg.{Seg}
 use Rattle.zms_units.specs.Segments.{end_of, Covers}
+use Rattle.zms_units.specs.Limits.{MAX_UNITS}
 use Rattle.zms_units.specs.Runs.{units_in, run_count}
 
 -- for the number of a tree and a unit: is the unit in that tree?
 abbrev pub Sets : Type 0
 Sets = ℕ → ℕ → Bool
 
--- all sets lie below this unit, 131072. The name is opaque, so that no count is worked out unit by unit
+-- all sets lie below this unit. The name is opaque, so that no count is worked out unit by unit
 unfoldable pub range : ℕ
-range = 131072
+range = MAX_UNITS
 
 -- how many units a set has
 abbrev pub size_of : (ℕ → Bool) → ℕ
@@ -41,7 +42,7 @@ pub record IsLowest (set : ℕ → Bool) (seg : Seg) (unit : ℕ) : Type 0 where
 -- a segment that a call may name: not empty, and within the range
 pub record IsSegment (seg : Seg) : Type 0 where
   pub some : 0 < seg.count
-  pub within : end_of seg ≤ 131072
+  pub within : end_of seg ≤ MAX_UNITS
 
 -- no two sets share a unit
 abbrev pub AreDisjoint : (ℕ → Bool) → (ℕ → Bool) → Type 0
@@ -60,3 +61,7 @@ OthersStayBut old new first second = (tree u : ℕ) → (tree ≡ first → ⊥)
 -- a count of steps rose by so many at most
 abbrev pub RisesAtMost : ℕ → ℕ → ℕ → Type 0
 RisesAtMost old new most = (old ≤ new) × (new ≤ old + most)
+
+-- a call took no memory and gave none away: what is spare and the nodes of all trees add up as before
+abbrev pub TakesNone : ℕ → Sets → ℕ → Sets → Type 0
+TakesNone spare old left new = left + all_nodes new ≡ spare + all_nodes old

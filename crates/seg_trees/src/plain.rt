@@ -2,8 +2,8 @@ ghost use Rattle.std.specs.Prelude.{◌≡◌, ℕ, ◌+◌, ◌-◌, ◌^◌, �
 ghost use Rattle.std.specs.List.{All};
 ghost use Rattle.zms_units.specs.declared.segments.Seg.{Seg};
 ghost use Rattle.zms_units.specs.Segments.{covers, covered};
-ghost use Rattle.seg_trees.specs.Sets.{nodes_of, IsSegment, AreDisjoint, OthersStayBut};
-ghost use Rattle.seg_trees.specs.OneSet.{OneSet};
+ghost use Rattle.seg_trees.specs.Sets.{nodes_of, IsSegment, AreDisjoint, OthersStayBut, TakesNone};
+ghost use Rattle.seg_trees.specs.OneSet.{OneSet, IsWhole};
 ghost use Rattle.seg_trees.specs.Kept.{sets_of, lists_of, runs_in};
 
 use crate::run_vec::RunVec;
@@ -42,7 +42,7 @@ impl Model for PlainTrees {
 fn total(trees: &[RunVec]) -> u32
     requires { runs_in trees.now ≤ 2 ^ 24 }
     ensures sum { result ≡ runs_in trees.now }
-    ensures nodes { All (λ (t : OneSet). nodes_of (covered t.runs) ≡ length t.runs) trees.now }
+    ensures nodes { All IsWhole trees.now }
 {
     let mut count = 0;
     for tree in trees {
@@ -72,6 +72,7 @@ fn merge_two(trees: &[RunVec], from: usize, into: usize, out: &mut RunVec)
     requires room { runs_in trees.now ≤ out.old.capacity }
     ensures set { (u : ℕ) → covered out.new.runs u ≡ (sets_of (lists_of trees.now) from u || sets_of (lists_of trees.now) into u) }
     ensures nodes { (d : OneSet) → length out.new.runs ≤ length (slice_index_or trees.now from d).runs + length (slice_index_or trees.now into d).runs }
+    ensures whole { IsWhole out.new }
     ensures capacity { out.new.capacity ≡ out.old.capacity }
 {
     out.merge(&trees[from], &trees[into]);
@@ -201,6 +202,7 @@ impl PlainTrees {
         ensures into { (u : ℕ) → sets_of self.new.lists into u ≡ ((covers (record { start = seg.start; count = result }) u && not (sets_of self.old.lists from u)) || sets_of self.old.lists into u) }
         ensures others { OthersStayBut (sets_of self.old.lists) (sets_of self.new.lists) from into }
         ensures spare { self.old.spare ≤ self.new.spare + 1 }
+        ensures memory { TakesNone self.old.spare (sets_of self.old.lists) self.new.spare (sets_of self.new.lists) }
     {
         let (count, held) = self.trees[from as usize].front(seg);
         let front = Seg {

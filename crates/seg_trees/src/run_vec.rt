@@ -3,16 +3,16 @@ ghost use Rattle.std.specs.Vec.{vec_capacity};
 ghost use Rattle.zms_units.specs.declared.segments.Seg.{Seg};
 ghost use Rattle.zms_units.specs.Segments.{covers, covered, Covers};
 ghost use Rattle.zms_units.specs.Apart.{AreApartFrom};
+ghost use Rattle.zms_units.specs.Limits.{IsShift};
 ghost use Rattle.zms_units.specs.Weights.{IsHistogramOf};
 ghost use Rattle.zms_units.specs.Runs.{IsFirstFrom, NoneFrom, IsBest, IsLargest};
+ghost use Rattle.seg_trees.specs.OneSet.{IsWhole};
 ghost use Rattle.seg_trees.specs.Sets.{HoldsAll, HoldsNone, IsLowest, IsSegment, AreDisjoint, size_of, nodes_of};
 
-use crate::runs::{
-    carve, first_after, front_of, histogram_of, holder, join, lowest, merge, unit_count,
-};
+use crate::runs::{carve, first_after, front_of, histogram_of, holder, join, lowest, merge};
 use std::alloc::{AllocError, Global};
 use std::marker::Model;
-use zms_units::{FreeRuns, Histogram, MAX_UNITS, PlainRuns, Seg};
+use zms_units::{FreeRuns, Histogram, MAX_UNITS, PlainRuns, Seg, unit_count};
 
 /// One tree: a set of units, as the vector of its maximal runs, by rising start.
 #[derive(Debug, Drop)]
@@ -21,15 +21,17 @@ pub(crate) struct RunVec {
 }
 
 impl Model for RunVec {
-    ghost use Rattle.zms_units.specs.Apart.{AreApartFrom};
+    ghost use Rattle.std.specs.Prelude.{◌+◌};
     ghost use Rattle.std.specs.Vec.{vec_capacity};
+    ghost use Rattle.zms_units.specs.Apart.{AreApartFrom};
+    ghost use Rattle.zms_units.specs.Limits.{MAX_UNITS};
     ghost use Rattle.seg_trees.specs.OneSet.{OneSet};
 
     ghost Value = { OneSet };
 
     ghost view = { λ v. record { runs = v.runs.items; capacity = vec_capacity v.runs } };
 
-    ghost invariant = { λ v. AreApartFrom 0 131073 v.runs.items };
+    ghost invariant = { λ v. AreApartFrom 0 (MAX_UNITS + 1) v.runs.items };
 }
 
 impl RunVec {
@@ -96,6 +98,7 @@ impl RunVec {
         requires room { length self.old.runs < self.old.capacity }
         ensures set { (u : ℕ) → covered self.new.runs u ≡ (covers seg u || covered self.old.runs u) }
         ensures nodes { length self.new.runs ≤ length self.old.runs + 1 }
+        ensures whole { IsWhole self.new }
         ensures capacity { self.new.capacity ≡ self.old.capacity }
     {
         join(&mut self.runs, seg);
@@ -108,6 +111,7 @@ impl RunVec {
         requires room { length self.old.runs < self.old.capacity }
         ensures set { (u : ℕ) → covered self.new.runs u ≡ (not (covers seg u) && covered self.old.runs u) }
         ensures nodes { length self.new.runs ≤ length self.old.runs + 1 }
+        ensures whole { IsWhole self.new }
         ensures capacity { self.new.capacity ≡ self.old.capacity }
     {
         carve(&mut self.runs, seg);
@@ -127,6 +131,7 @@ impl RunVec {
         requires room { length first.now.runs + length second.now.runs ≤ self.old.capacity }
         ensures set { (u : ℕ) → covered self.new.runs u ≡ (covered first.now.runs u || covered second.now.runs u) }
         ensures nodes { length self.new.runs ≤ length first.now.runs + length second.now.runs }
+        ensures whole { IsWhole self.new }
         ensures capacity { self.new.capacity ≡ self.old.capacity }
     {
         merge(&first.runs, &second.runs, &mut self.runs);
@@ -157,7 +162,7 @@ impl RunVec {
 
     /// How many runs there are of each length in bytes, by its highest set bit.
     pub(crate) fn histogram(&self, ashift: u8) -> Histogram
-        requires { (9 ≤ ashift) × (ashift ≤ 12) }
+        requires { IsShift ashift }
         ensures { IsHistogramOf (covered self.now.runs) MAX_UNITS ashift result }
     {
         histogram_of(&self.runs, ashift)

@@ -4,16 +4,17 @@ ghost use Rattle.std.specs.Vec.{vec_len, vec_capacity};
 ghost use Rattle.zms_units.specs.declared.segments.Seg.{Seg};
 ghost use Rattle.zms_units.specs.Segments.{end_of, covers, covered, Covers};
 ghost use Rattle.zms_units.specs.Apart.{AreApartFrom};
+ghost use Rattle.zms_units.specs.Limits.{IsShift};
 ghost use Rattle.zms_units.specs.Weights.{is_in_bucket};
 ghost use Rattle.zms_units.specs.Runs.{IsFirstFrom, NoneFrom};
 ghost use Rattle.seg_trees.specs.Pieces.{runs_of, IsHolder, Touches, IsNextRun};
 ghost use Rattle.seg_trees.specs.Sets.{HoldsAll, HoldsNone, IsLowest, IsSegment, AreDisjoint};
 
-use zms_units::{Histogram, Seg};
+use zms_units::{BUCKETS, Histogram, MAX_UNITS, Seg};
 
 /// How many runs end at a unit or before it.
 fn ended(runs: &[Seg], unit: u32) -> usize
-    requires { AreApartFrom 0 131073 runs.now }
+    requires { AreApartFrom 0 (MAX_UNITS + 1) runs.now }
     ensures bound { result ≤ length runs.now }
     ensures below { AllWithin (λ (run : Seg). end_of run ≤ unit) runs.now 0 result }
     ensures above { AllWithin (λ (run : Seg). unit < end_of run) runs.now result (length runs.now) }
@@ -23,7 +24,7 @@ fn ended(runs: &[Seg], unit: u32) -> usize
 
 /// How many runs begin before a unit.
 fn begun(runs: &[Seg], unit: u32) -> usize
-    requires { AreApartFrom 0 131073 runs.now }
+    requires { AreApartFrom 0 (MAX_UNITS + 1) runs.now }
     ensures bound { result ≤ length runs.now }
     ensures below { AllWithin (λ (run : Seg). run.start < unit) runs.now 0 result }
     ensures above { AllWithin (λ (run : Seg). unit ≤ run.start) runs.now result (length runs.now) }
@@ -52,7 +53,7 @@ fn cut(runs: &mut Vec<Seg>, low: usize, high: usize)
 
 /// The place of the run that covers a segment whole.
 pub(crate) fn holder(runs: &[Seg], seg: Seg) -> Option<usize>
-    requires apart { AreApartFrom 0 131073 runs.now }
+    requires apart { AreApartFrom 0 (MAX_UNITS + 1) runs.now }
     requires segment { IsSegment seg }
     ensures some { IfSome result (IsHolder runs.now seg) }
     ensures none { IfNone result (HoldsAll (covered runs.now) seg → ⊥) }
@@ -94,7 +95,7 @@ fn split(runs: &mut Vec<Seg>, index: usize, left: Seg, right: Seg)
 /// From which place to which a segment touches runs: it overlaps them, or ends where they begin, or begins where they
 /// end.
 fn touched(runs: &[Seg], seg: Seg) -> (usize, usize)
-    requires apart { AreApartFrom 0 131073 runs.now }
+    requires apart { AreApartFrom 0 (MAX_UNITS + 1) runs.now }
     requires segment { IsSegment seg }
     ensures { Touches runs.now seg result.0 result.1 }
 {
@@ -105,10 +106,10 @@ fn touched(runs: &[Seg], seg: Seg) -> (usize, usize)
 
 /// Joins a segment and the runs that it touches into one run.
 pub(crate) fn join(runs: &mut Vec<Seg>, seg: Seg)
-    requires apart { AreApartFrom 0 131073 runs.old.items }
+    requires apart { AreApartFrom 0 (MAX_UNITS + 1) runs.old.items }
     requires segment { IsSegment seg }
     requires room { vec_len runs.old < vec_capacity runs.old }
-    ensures apart { AreApartFrom 0 131073 runs.new.items }
+    ensures apart { AreApartFrom 0 (MAX_UNITS + 1) runs.new.items }
     ensures units { (u : ℕ) → covered runs.new.items u ≡ (covers seg u || covered runs.old.items u) }
     ensures len { vec_len runs.new ≤ vec_len runs.old + 1 }
     ensures capacity { vec_capacity runs.new ≡ vec_capacity runs.old }
@@ -131,11 +132,11 @@ pub(crate) fn join(runs: &mut Vec<Seg>, seg: Seg)
 
 /// Cuts a segment out of the run that covers it.
 pub(crate) fn carve(runs: &mut Vec<Seg>, seg: Seg)
-    requires apart { AreApartFrom 0 131073 runs.old.items }
+    requires apart { AreApartFrom 0 (MAX_UNITS + 1) runs.old.items }
     requires segment { IsSegment seg }
     requires covered { HoldsAll (covered runs.old.items) seg }
     requires room { vec_len runs.old < vec_capacity runs.old }
-    ensures apart { AreApartFrom 0 131073 runs.new.items }
+    ensures apart { AreApartFrom 0 (MAX_UNITS + 1) runs.new.items }
     ensures units { (u : ℕ) → covered runs.new.items u ≡ (not (covers seg u) && covered runs.old.items u) }
     ensures len { vec_len runs.new ≤ vec_len runs.old + 1 }
     ensures capacity { vec_capacity runs.new ≡ vec_capacity runs.old }
@@ -156,7 +157,7 @@ pub(crate) fn carve(runs: &mut Vec<Seg>, seg: Seg)
 
 /// The lowest unit of a segment that runs cover.
 pub(crate) fn lowest(runs: &[Seg], seg: Seg) -> Option<u32>
-    requires apart { AreApartFrom 0 131073 runs.now }
+    requires apart { AreApartFrom 0 (MAX_UNITS + 1) runs.now }
     requires segment { IsSegment seg }
     ensures lowest { IfSome result (IsLowest (covered runs.now) seg) }
     ensures none { IfNone result (HoldsNone (covered runs.now) seg) }
@@ -174,23 +175,15 @@ pub(crate) fn lowest(runs: &[Seg], seg: Seg) -> Option<u32>
 
 /// The lowest run of at least `count` units that starts at `at` or after it.
 pub(crate) fn first_after(runs: &[Seg], count: u32, at: u32) -> Option<Seg>
-    requires { AreApartFrom 0 131073 runs.now }
-    ensures first { IfSome result (IsFirstFrom (covered runs.now) 131072 count at) }
-    ensures none { IfNone result (NoneFrom (covered runs.now) 131072 count at) }
+    requires { AreApartFrom 0 (MAX_UNITS + 1) runs.now }
+    ensures first { IfSome result (IsFirstFrom (covered runs.now) MAX_UNITS count at) }
+    ensures none { IfNone result (NoneFrom (covered runs.now) MAX_UNITS count at) }
 {
     let from = begun(runs, at);
     let Some(index) = first_long(&runs[from..], count) else {
         return None;
     };
     Some(runs[from + index])
-}
-
-/// How many units runs have.
-pub(crate) fn unit_count(runs: &[Seg]) -> u32
-    requires { sum_by (λ (run : Seg). run.count) runs.now < 2 ^ 32 }
-    ensures { result ≡ sum_by (λ (run : Seg). run.count) runs.now }
-{
-    runs.iter().map(|run| run.count).sum()
 }
 
 /// Adds a run behind the others, joined to the last one where it begins at its end.
@@ -236,11 +229,11 @@ fn comes_first(first: &[Seg], taken: usize, second: &[Seg], used: usize) -> bool
 
 /// Writes the runs of two lists that share no unit in the place of a third one's, joined where they touch.
 pub(crate) fn merge(first: &[Seg], second: &[Seg], out: &mut Vec<Seg>)
-    requires first { AreApartFrom 0 131073 first.now }
-    requires second { AreApartFrom 0 131073 second.now }
+    requires first { AreApartFrom 0 (MAX_UNITS + 1) first.now }
+    requires second { AreApartFrom 0 (MAX_UNITS + 1) second.now }
     requires disjoint { AreDisjoint (covered first.now) (covered second.now) }
     requires room { length first.now + length second.now ≤ vec_capacity out.old }
-    ensures apart { AreApartFrom 0 131073 out.new.items }
+    ensures apart { AreApartFrom 0 (MAX_UNITS + 1) out.new.items }
     ensures units { (u : ℕ) → covered out.new.items u ≡ (covered first.now u || covered second.now u) }
     ensures len { vec_len out.new ≤ length first.now + length second.now }
     ensures capacity { vec_capacity out.new ≡ vec_capacity out.old }
@@ -261,7 +254,7 @@ pub(crate) fn merge(first: &[Seg], second: &[Seg], out: &mut Vec<Seg>)
 
 /// How many units at the front of a segment are all covered, or all not, and which of the two.
 pub(crate) fn front_of(runs: &[Seg], seg: Seg) -> (u32, bool)
-    requires apart { AreApartFrom 0 131073 runs.now }
+    requires apart { AreApartFrom 0 (MAX_UNITS + 1) runs.now }
     requires segment { IsSegment seg }
     ensures some { 0 < result.0 }
     ensures within { result.0 ≤ seg.count }
@@ -278,28 +271,15 @@ pub(crate) fn front_of(runs: &[Seg], seg: Seg) -> (u32, bool)
     (seg.count.min(run.start + run.count - seg.start), true)
 }
 
-/// In which bucket a run of so many units is: the highest set bit of its length in bytes.
-fn bucket_of(count: u32, ashift: u8) -> usize
-    requires some { 0 < count }
-    requires most { count ≤ 131072 }
-    requires ashift { (9 ≤ ashift) × (ashift ≤ 12) }
-    ensures least { 2 ^ result ≤ count * 2 ^ ashift }
-    ensures most { count * 2 ^ ashift < 2 ^ (result + 1) }
-    ensures below { result < 64 }
-{
-    let bytes = count as u64 * (1u64 << ashift);
-    bytes.ilog2() as usize
-}
-
 /// How many runs are in each bucket.
 pub(crate) fn histogram_of(runs: &[Seg], ashift: u8) -> Histogram
-    requires apart { AreApartFrom 0 131073 runs.now }
-    requires ashift { (9 ≤ ashift) × (ashift ≤ 12) }
-    ensures { (bucket : ℕ) → bucket < 64 → slice_index result.runs bucket ≡ count_by (is_in_bucket ashift bucket) runs.now }
+    requires apart { AreApartFrom 0 (MAX_UNITS + 1) runs.now }
+    requires ashift { IsShift ashift }
+    ensures { (bucket : ℕ) → bucket < BUCKETS → slice_index result.runs bucket ≡ count_by (is_in_bucket ashift bucket) runs.now }
 {
-    let mut counts = [0; 64];
+    let mut hist = Histogram::empty();
     for run in runs {
-        counts[bucket_of(run.count, ashift)] += 1;
+        hist.add(*run, ashift);
     }
-    Histogram { runs: counts }
+    hist
 }

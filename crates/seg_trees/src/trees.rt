@@ -1,8 +1,9 @@
 ghost use Rattle.std.specs.Prelude.{◌≡◌, ℕ, ◌+◌, ◌*◌, ◌^◌, ◌<◌, ◌≤◌, ◌≢◌, ◌↔◌, Bool, false, not, ◌&&◌, ◌||◌, IsTrue, OnOk, IfSome, IfNone};
 ghost use Rattle.zms_units.specs.Segments.{covers};
 ghost use Rattle.zms_units.specs.Runs.{IsFirstFrom, NoneFrom, IsBest, IsLargest};
+ghost use Rattle.zms_units.specs.Limits.{IsShift};
 ghost use Rattle.zms_units.specs.Weights.{IsHistogramOf};
-ghost use Rattle.seg_trees.specs.Sets.{size_of, nodes_of, all_nodes, HoldsAll, HoldsNone, IsLowest, IsSegment, AreDisjoint, AllStay, OthersStay, OthersStayBut, RisesAtMost};
+ghost use Rattle.seg_trees.specs.Sets.{size_of, nodes_of, all_nodes, HoldsAll, HoldsNone, IsLowest, IsSegment, AreDisjoint, AllStay, OthersStay, OthersStayBut, RisesAtMost, TakesNone};
 
 use crate::Steps;
 use std::alloc::{AllocError, Global};
@@ -17,7 +18,8 @@ pub const TREES: u8 = 13;
 /// runs, one node for each, over one store of nodes.
 ///
 /// A call that names a tree leaves the others as they were. Memory is taken by `reserve` alone: `spare` says how many
-/// calls of `add` or `remove` are sure to find a node. `steps` counts the nodes that searches visit, and at most `descent n`
+/// calls of `add` or `remove` are sure to find a node, and in every other call it falls by exactly the nodes that the trees
+/// have more, and rises by exactly those that they have fewer. `steps` counts the nodes that searches visit, and at most `descent n`
 /// of them are visited by one descent into a tree of `n` nodes.
 pub trait SegTrees {
     // For a tree and a unit: is the unit in the tree?
@@ -55,6 +57,7 @@ pub trait SegTrees {
         ensures added { (u : ℕ) → set self.new tree u ≡ (covers seg u || set self.old tree u) }
         ensures others { OthersStay (set self.old) (set self.new) tree }
         ensures spare { spare self.old ≤ spare self.new + 1 }
+        ensures memory { TakesNone (spare self.old) (set self.old) (spare self.new) (set self.new) }
         ensures steps { RisesAtMost steps.old steps.new (8 * descent (nodes_of (set self.old tree))) };
 
     /// Takes a segment away that the tree covers, as `range_tree_remove` does.
@@ -66,6 +69,7 @@ pub trait SegTrees {
         ensures removed { (u : ℕ) → set self.new tree u ≡ (not (covers seg u) && set self.old tree u) }
         ensures others { OthersStay (set self.old) (set self.new) tree }
         ensures spare { spare self.old ≤ spare self.new + 1 }
+        ensures memory { TakesNone (spare self.old) (set self.old) (spare self.new) (set self.new) }
         ensures steps { RisesAtMost steps.old steps.new (8 * descent (nodes_of (set self.old tree))) };
 
     /// Is each unit of the segment in the tree? As `range_tree_contains` asks.
@@ -116,7 +120,8 @@ pub trait SegTrees {
         ensures first { (u : ℕ) → set self.new first u ≡ set self.old second u }
         ensures second { (u : ℕ) → set self.new second u ≡ set self.old first u }
         ensures others { OthersStayBut (set self.old) (set self.new) first second }
-        ensures spare { spare self.old ≤ spare self.new };
+        ensures spare { spare self.old ≤ spare self.new }
+        ensures memory { TakesNone (spare self.old) (set self.old) (spare self.new) (set self.new) };
 
     /// Moves all units of one tree into another, which holds none of them: `range_tree_vacate` with `range_tree_add`.
     /// Takes no memory.
@@ -127,14 +132,16 @@ pub trait SegTrees {
         ensures into { (u : ℕ) → set self.new into u ≡ (set self.old from u || set self.old into u) }
         ensures from { (u : ℕ) → set self.new from u ≡ false }
         ensures others { OthersStayBut (set self.old) (set self.new) from into }
-        ensures spare { spare self.old ≤ spare self.new };
+        ensures spare { spare self.old ≤ spare self.new }
+        ensures memory { TakesNone (spare self.old) (set self.old) (spare self.new) (set self.new) };
 
     /// Empties a tree, as `range_tree_vacate` does. Takes no memory.
     fn clear(&mut self, tree: u8)
         requires { tree < TREES }
         ensures empty { (u : ℕ) → set self.new tree u ≡ false }
         ensures others { OthersStay (set self.old) (set self.new) tree }
-        ensures spare { spare self.old ≤ spare self.new };
+        ensures spare { spare self.old ≤ spare self.new }
+        ensures memory { TakesNone (spare self.old) (set self.old) (spare self.new) (set self.new) };
 
     /// Takes the units of the segment that `from` has away from it, and adds the others to `into`, as
     /// `range_tree_remove_xor_add_segment` does. Units that `into` has already stay in it.
@@ -146,7 +153,8 @@ pub trait SegTrees {
         ensures from { (u : ℕ) → set self.new from u ≡ (not (covers seg u) && set self.old from u) }
         ensures into { (u : ℕ) → set self.new into u ≡ ((covers seg u && not (set self.old from u)) || set self.old into u) }
         ensures others { OthersStayBut (set self.old) (set self.new) from into }
-        ensures spare { spare self.old ≤ spare self.new + seg.count };
+        ensures spare { spare self.old ≤ spare self.new + seg.count }
+        ensures memory { TakesNone (spare self.old) (set self.old) (spare self.new) (set self.new) };
 
     /// How many units the tree has.
     fn units(&self, tree: u8) -> u32
@@ -162,6 +170,6 @@ pub trait SegTrees {
     /// units of `2^ashift` bytes. After `range_tree_stat`.
     fn histogram(&self, tree: u8, ashift: u8) -> Histogram
         requires tree { tree < TREES }
-        requires ashift { (9 ≤ ashift) × (ashift ≤ 12) }
+        requires ashift { IsShift ashift }
         ensures { IsHistogramOf (set self.now tree) MAX_UNITS ashift result };
 }

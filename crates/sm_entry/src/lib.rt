@@ -1,8 +1,13 @@
 //! One entry of a space map, in OpenZFS's words of 64 bits.
 //!
-//! `specs/Grammar.antt` says which words are which entry. To the layer above, `write` gives the words of an entry, the
-//! only ones that there are, and `read` gives the entry that words begin with, or says why there is none. What was
-//! written is read again, whatever follows it. No call takes memory.
+//! `specs/Layout.antt` has the bits of each field once, and `specs/Grammar.antt` says which words are which entry. To
+//! the layer above, `write` gives exactly an entry's words, in one word or two, and leaves the rest of the buffer as
+//! it was (`words`, `size`, `stays`); these words say the entry whatever follows them, and no others say it (`again`,
+//! `only`). `read` answers exactly the entry that words begin with and its number of words (`says`, `only`), which
+//! fits its bits and has these words (`fits`, `words`), and else `BadPad` or `Short`, each exactly where it is
+//! defined (`bad_pad`, `short`). No call takes memory.
+//!
+//! That the bits are those of OpenZFS is not for a contract to say: worked words show it.
 #![tactic(auto)]
 
 ghost use Rattle.std.specs.Prelude.{◌≡◌, ℕ, ◌<◌, ◌≤◌, ◌↔◌, List, ◌++◌, length, slice_index, take, drop, IfOk};

@@ -1,5 +1,6 @@
 -- The entries that runs of units are written as.
-use Rattle.std.specs.Prelude.{ℕ, ◌+◌, ◌-◌, ◌*◌, ◌^◌, ◌≤◌, nat_le, if◌then◌else◌, List, [], ◌∷◌, ◌++◌, map}
+use Rattle.std.specs.Prelude.{ℕ, ◌+◌, ◌-◌, ◌*◌, ◌^◌, nat_le, if◌then◌else◌, List, [], ◌∷◌, ◌++◌, map}
+use Rattle.zms_units.specs.Limits.{IsShift}
 use Rattle.zms_units.specs.declared.segments.Seg.{Seg}
 use Rattle.zms_units.specs.Segments.{AreSegs, AreRisingFrom}
 use Rattle.sm_entry.specs.Grammar.{type_bit}
@@ -25,7 +26,7 @@ sectors ashift = 2 ^ (ashift - 9)
 -- units of 512 to 4096 bytes
 abbrev pub HasShift : Place → Type 0
 HasShift (Side _) = Unit {0}
-HasShift (Log _ _ ashift) = (9 ≤ ashift) × (ashift ≤ 12)
+HasShift (Log _ _ ashift) = IsShift ashift
 
 -- the entry of a run: on a side one word for up to 32768 units and else two, in a log always two, in sectors
 abbrev pub entry_of : Place → SmType → Seg → Entry

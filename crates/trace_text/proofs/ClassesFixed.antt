@@ -16,9 +16,10 @@ use Rattle.ms_model.specs.declared.notes.Kind.{Kind}
 use Rattle.ms_model.specs.declared.notes.Kind.TheVariants.{Primary, Secondary}
 use Rattle.ms_model.specs.declared.notes.Start.{Start}
 use Rattle.ms_model.specs.declared.notes.Start.TheVariants.{Active, Top, After}
-use Rattle.trace_text.specs.Laws.{Held, IdHeld, StartHeld, GotHeld, ClassNoteHeld, ClassHeld, KeeperNoteHeld}
+use Rattle.trace_text.specs.Held.{Held, IdHeld, StartHeld, GotHeld, ClassNoteHeld, LaneClassNoteHeld, ClassHeld, KeeperNoteHeld, LaneKeeperNoteHeld}
 use Rattle.trace_text.specs.Numbers.{weight_text, numbered}
-use Rattle.trace_text.specs.Traces.{id_text, class_word, kind_word, start_text, got_text, class_note_text, class_note_line, class_text, keeper_note_text, keeper_note_line, keeper_text}
+use Rattle.zms_units.specs.Classes.{class_word}
+use Rattle.trace_text.specs.Traces.{id_text, kind_word, start_text, got_text, class_note_text, class_note_line, class_text, keeper_note_text, keeper_note_line, keeper_text}
 use Rattle.trace_text.proofs.Reading.{first, key, number_fixed, number_then, number_end, first_number, numbered_fixed}
 use Rattle.trace_text.proofs.Weights.{weight_fixed}
 use Rattle.trace_text.proofs.NotesFixed.{line_begins, line_fixed, pair_fixed, group_same}
@@ -153,7 +154,7 @@ class_note_fixed (Weigh a w) (Weigh b v) r s p q e =
     ((λ z. Weigh (i.0 z) (i.1 z)), i.2)
 class_note_fixed _ _ r s p q e = let f = ap key e in absurd (omega arith)
 
-class_note_line_fixed : (k : ℕ) (x y : ℕ × ClassNote) (r s : List ℕ) → Held x.0 × ClassNoteHeld x.1 → Held y.0 × ClassNoteHeld y.1 → class_note_line k x ++ r ≡ class_note_line k y ++ s → (x ≡ y) × (r ≡ s)
+class_note_line_fixed : (k : ℕ) (x y : ℕ × ClassNote) (r s : List ℕ) → LaneClassNoteHeld x → LaneClassNoteHeld y → class_note_line k x ++ r ≡ class_note_line k y ++ s → (x ≡ y) × (r ≡ s)
 class_note_line_fixed k x y r s p q e =
     let i = line_fixed k x.0 y.0 (class_note_text x.1) (class_note_text y.1) r s p.0 q.0 e in
     let j = class_note_fixed x.1 y.1 r s p.1 q.1 i.1 in
@@ -175,7 +176,7 @@ class_fixed x y r s p q past end e =
     let yn = numbered class_note_line 1 y.notes in
     let f = append_cancel_left (codes "class ") (((class_word x.class ++ (10 ∷ [])) ++ xn) ++ r) (((class_word y.class ++ (10 ∷ [])) ++ yn) ++ s) e in
     let i = class_word_fixed x.class y.class (xn ++ r) (yn ++ s) (sym (class_rest (class_word x.class) xn r) ∙ (f ∙ class_rest (class_word y.class) yn s)) in
-    let n = numbered_fixed class_note_line (λ (note : ℕ × ClassNote). Held note.0 × ClassNoteHeld note.1) (λ c. c < 97) (λ _. Unit {0})
+    let n = numbered_fixed class_note_line LaneClassNoteHeld (λ c. c < 97) (λ _. Unit {0})
     (λ k z t. (line_begins k z.0 (class_note_text z.1) t, tt)) (λ k z w t u a b _ _ g. class_note_line_fixed k z w t u a b g)
     1 x.notes y.notes r s p q (λ low. absurd (omega arith)) (λ low. absurd (omega arith)) tt tt i.1 in
     ((λ t. record { class = i.0 t; notes = n.0 t }), n.1)
@@ -194,16 +195,16 @@ keeper_note_fixed (Damaged a) (Damaged b) r s p q e =
     (ap Damaged i.0, i.1)
 keeper_note_fixed _ _ r s p q e = let f = ap key e in absurd (omega arith)
 
-keeper_note_line_fixed : (k : ℕ) (x y : ℕ × KeeperNote) (r s : List ℕ) → Held x.0 × KeeperNoteHeld x.1 → Held y.0 × KeeperNoteHeld y.1 → keeper_note_line k x ++ r ≡ keeper_note_line k y ++ s → (x ≡ y) × (r ≡ s)
+keeper_note_line_fixed : (k : ℕ) (x y : ℕ × KeeperNote) (r s : List ℕ) → LaneKeeperNoteHeld x → LaneKeeperNoteHeld y → keeper_note_line k x ++ r ≡ keeper_note_line k y ++ s → (x ≡ y) × (r ≡ s)
 keeper_note_line_fixed k x y r s p q e =
     let i = line_fixed k x.0 y.0 (keeper_note_text x.1) (keeper_note_text y.1) r s p.0 q.0 e in
     let j = keeper_note_fixed x.1 y.1 r s p.1 q.1 i.1 in
     ((λ t. (i.0 t, j.0 t)), j.1)
 
-pub keeper_fixed : (xs ys : List (ℕ × KeeperNote)) (r s : List ℕ) → All (λ (note : ℕ × KeeperNote). Held note.0 × KeeperNoteHeld note.1) xs → All (λ (note : ℕ × KeeperNote). Held note.0 × KeeperNoteHeld note.1) ys
+pub keeper_fixed : (xs ys : List (ℕ × KeeperNote)) (r s : List ℕ) → All LaneKeeperNoteHeld xs → All LaneKeeperNoteHeld ys
     → 97 ≤ first r → 97 ≤ first s → keeper_text xs ++ r ≡ keeper_text ys ++ s → (xs ≡ ys) × (r ≡ s)
 keeper_fixed xs ys r s p q past end e =
-    numbered_fixed keeper_note_line (λ (note : ℕ × KeeperNote). Held note.0 × KeeperNoteHeld note.1) (λ c. c < 97) (λ _. Unit {0})
+    numbered_fixed keeper_note_line LaneKeeperNoteHeld (λ c. c < 97) (λ _. Unit {0})
     (λ k z t. (line_begins k z.0 (keeper_note_text z.1) t, tt)) (λ k z w t u a b _ _ g. keeper_note_line_fixed k z w t u a b g)
     1 xs ys r s p q (λ low. absurd (omega arith)) (λ low. absurd (omega arith)) tt tt
     (append_cancel_left (codes "keeper\n") (numbered keeper_note_line 1 xs ++ r) (numbered keeper_note_line 1 ys ++ s) e)

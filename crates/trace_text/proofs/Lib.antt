@@ -1,7 +1,6 @@
-pub mod Printing
+pub mod Lists
 pub mod Weights
 pub mod Reading
 pub mod NotesFixed
 pub mod TracesFixed
-pub mod TraceParts
 pub mod ClassesFixed

@@ -11,7 +11,7 @@ use Rattle.ms_model.specs.declared.notes.Act.TheVariants.{Grant, Free, Unalloc, 
 use Rattle.ms_model.specs.declared.notes.Noted.{Noted}
 use Rattle.ms_model.specs.declared.notes.WorkKind.{WorkKind}
 use Rattle.ms_model.specs.declared.notes.WorkKind.TheVariants.{Init, Trim}
-use Rattle.trace_text.specs.Laws.{Held, SegHeld, WorkHeld, ActHeld, NoteHeld, MetaslabHeld}
+use Rattle.trace_text.specs.Held.{Held, SegHeld, WorkHeld, ActHeld, NoteHeld, MetaslabHeld}
 use Rattle.trace_text.specs.Numbers.{numbered}
 use Rattle.trace_text.specs.Traces.{note_line, seg_text, work_word, work_text, act_text, act_line, metaslab_text}
 use Rattle.trace_text.proofs.Reading.{first, key, number_fixed, number_then, number_end, first_number, numbered_fixed}

@@ -5,10 +5,11 @@ use Rattle.std.specs.List.{All, flat_map}
 use Rattle.std.specs.Prelude.{codes, decimal}
 use Rattle.zms_units.specs.declared.segments.Group.{Group}
 use Rattle.ms_model.specs.declared.journals.ClassJournal.{ClassJournal}
+use Rattle.ms_model.specs.declared.journals.Journals.{Journals}
 use Rattle.ms_model.specs.declared.journals.MsJournal.{MsJournal}
 use Rattle.ms_model.specs.declared.notes.KeeperNote.{KeeperNote}
-use Rattle.trace_text.specs.Laws.{Held, MetaslabHeld, ClassHeld, TracesFixJournals, MetaslabTracesFixJournals}
-use Rattle.trace_text.specs.Traces.{opened_line, metaslab_text, class_text, keeper_text}
+use Rattle.trace_text.specs.Held.{Held, MetaslabHeld, ClassHeld, MetaslabsHeld, JournalsHeld}
+use Rattle.trace_text.specs.Traces.{opened_line, metaslab_text, metaslab_trace_text, class_text, keeper_text, trace_text}
 use Rattle.trace_text.proofs.Reading.{first, number_end, numbered_fixed, flat_numbered}
 use Rattle.trace_text.proofs.NotesFixed.{group_same, metaslab_fixed}
 use Rattle.trace_text.proofs.ClassesFixed.{class_fixed, keeper_fixed}
@@ -26,7 +27,7 @@ metaslabs_fixed xs ys r s p q good fine past end e =
     numbered_fixed (λ _. metaslab_text) MetaslabHeld (λ c. c ≡ 109) (λ c. 97 ≤ c) (λ k x t. (refl, omega arith)) (λ k x y t u a b g h i. metaslab_fixed x y t u a b g h i)
     0 xs ys r s p q past end good fine f
 
-pub metaslab_trace_fixed : MetaslabTracesFixJournals
+pub metaslab_trace_fixed : (a b : Journals) → MetaslabsHeld a → MetaslabsHeld b → metaslab_trace_text a ≡ metaslab_trace_text b → (a.opened ≡ b.opened) × (a.metaslabs ≡ b.metaslabs)
 metaslab_trace_fixed a b p q e =
     let i = opened_fixed a.opened b.opened (flat_map metaslab_text a.metaslabs ++ codes "end\n") (flat_map metaslab_text b.metaslabs ++ codes "end\n") p.opened q.opened e in
     let j = metaslabs_fixed a.metaslabs b.metaslabs (codes "end\n") (codes "end\n") p.metaslabs q.metaslabs (omega arith) (omega arith) (λ f. absurd (omega arith)) (λ f. absurd (omega arith)) i.1 in
@@ -44,7 +45,7 @@ classes_fixed xs ys r s p q good fine past end e =
     numbered_fixed (λ _. class_text) ClassHeld (λ c. c ≡ 99) (λ c. 97 ≤ c) (λ k x t. (refl, omega arith)) (λ k x y t u a b g h i. class_fixed x y t u a b g h i)
     0 xs ys r s p q past end good fine f
 
-pub trace_fixed : TracesFixJournals
+pub trace_fixed : (a b : Journals) → JournalsHeld a → JournalsHeld b → trace_text a ≡ trace_text b → a ≡ b
 trace_fixed a b p q e =
     let ak = keeper_text a.keeper ++ codes "end\n" in
     let bk = keeper_text b.keeper ++ codes "end\n" in

@@ -1,4 +1,5 @@
-pub mod Printing
+pub mod Pieces
 pub mod Numbers
+pub mod Places
 pub mod Traces
-pub mod Laws
+pub mod Held

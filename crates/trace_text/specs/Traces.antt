@@ -2,7 +2,6 @@
 use Rattle.std.specs.Prelude.{ℕ, Option, Some, None, List, [], ◌∷◌, ◌++◌, codes, decimal}
 use Rattle.std.specs.List.{flat_map}
 use Rattle.zms_units.specs.declared.places.Class.{Class}
-use Rattle.zms_units.specs.declared.places.Class.TheVariants.{Normal, Log, Special, Dedup}
 use Rattle.zms_units.specs.declared.places.MsId.{MsId}
 use Rattle.zms_units.specs.declared.segments.Group.{Group}
 use Rattle.zms_units.specs.declared.segments.Seg.{Seg}
@@ -24,6 +23,7 @@ use Rattle.ms_model.specs.declared.notes.Start.TheVariants.{Active, Top, After}
 use Rattle.ms_model.specs.declared.notes.WorkKind.{WorkKind}
 use Rattle.ms_model.specs.declared.notes.WorkKind.TheVariants.{Init, Trim}
 use Rattle.trace_text.specs.Numbers.{weight_text, numbered}
+use Rattle.zms_units.specs.Classes.{class_word}
 
 -- `PLACE LANE NOTE` and a line feed
 abbrev pub note_line : ℕ → ℕ → List ℕ → List ℕ
@@ -80,12 +80,6 @@ opened_line group = codes "trace 1 group " ++ (decimal group.0 ++ (10 ∷ []))
 -- the trace of a pool whose classes and keeper have no journals
 abbrev pub metaslab_trace_text : Journals → List ℕ
 metaslab_trace_text j = opened_line j.opened ++ (flat_map metaslab_text j.metaslabs ++ codes "end\n")
-
-abbrev pub class_word : Class → List ℕ
-class_word Normal = codes "normal"
-class_word Log = codes "log"
-class_word Special = codes "special"
-class_word Dedup = codes "dedup"
 
 -- which copy a pick was for
 abbrev pub kind_word : Kind → List ℕ

@@ -1,29 +1,30 @@
 //! The journals of metaslabs, and the trace that has no others.
 
 ghost use Rattle.std.specs.Prelude.{◌≡◌, ◌++◌, codes};
-ghost use Rattle.std.specs.List.{flat_map};
-ghost use Rattle.trace_text.specs.Numbers.{numbered};
-ghost use Rattle.trace_text.specs.Printing.{Prints};
-ghost use Rattle.trace_text.specs.Traces.{seg_text, work_word, work_text, act_text, act_line, metaslab_line, metaslab_text, opened_line, metaslab_trace_text};
+ghost use Rattle.zms_dev.specs.Prints.{Prints};
+ghost use Rattle.trace_text.specs.Traces.{seg_text, work_word, work_text, act_text, metaslab_line, metaslab_text, opened_line, metaslab_trace_text};
 
-use crate::pieces::{Piece, write_number, write_pieces, write_place, write_word};
+use crate::lines::{LaneNote, Lines};
+use crate::pieces::Piece::{Number, Text};
+use crate::pieces::write_pieces;
+use crate::printed::Printed;
 use ms_model::{Act, Journals, MsJournal, Noted, WorkKind};
 use zms_dev::{Failed, Sink};
 use zms_units::{Group, Seg};
 
 /// A word, with the group and the segment of its note.
-fn write_seg<T: Sink>(trace: &mut T, word: &[u8], group: Group, seg: Seg) -> Result<(), Failed>
-    ensures { Prints (T.taken trace.old) (T.taken trace.new) (T.faults trace.old) (T.faults trace.new) (word.now ++ seg_text group seg) result }
+fn write_seg<S: Sink>(sink: &mut S, word: &[u8], group: Group, seg: Seg) -> Result<(), Failed>
+    ensures { Prints (S.state sink.old) (S.state sink.new) (word.now ++ seg_text group seg) result }
 {
     write_pieces(
-        trace,
+        sink,
         &[
-            Piece::Text(word),
-            Piece::Number(group.0),
-            Piece::Text(b" "),
-            Piece::Number(u64::from(seg.start)),
-            Piece::Text(b" "),
-            Piece::Number(u64::from(seg.count)),
+            Text(word),
+            Number(group.0),
+            Text(b" "),
+            Number(u64::from(seg.start)),
+            Text(b" "),
+            Number(u64::from(seg.count)),
         ],
     )
 }
@@ -37,117 +38,101 @@ fn word_of_work(kind: WorkKind) -> &'static [u8]
     }
 }
 
-fn write_work<T: Sink>(trace: &mut T, worker: u8, kind: WorkKind, seg: Seg) -> Result<(), Failed>
-    ensures { Prints (T.taken trace.old) (T.taken trace.new) (T.faults trace.old) (T.faults trace.new) (codes "work " ++ work_text worker kind seg) result }
+fn write_work<S: Sink>(sink: &mut S, worker: u8, kind: WorkKind, seg: Seg) -> Result<(), Failed>
+    ensures { Prints (S.state sink.old) (S.state sink.new) (codes "work " ++ work_text worker kind seg) result }
 {
     write_pieces(
-        trace,
+        sink,
         &[
-            Piece::Text(b"work "),
-            Piece::Number(u64::from(worker)),
-            Piece::Text(word_of_work(kind)),
-            Piece::Number(u64::from(seg.start)),
-            Piece::Text(b" "),
-            Piece::Number(u64::from(seg.count)),
+            Text(b"work "),
+            Number(u64::from(worker)),
+            Text(word_of_work(kind)),
+            Number(u64::from(seg.start)),
+            Text(b" "),
+            Number(u64::from(seg.count)),
         ],
     )
 }
 
-fn write_act<T: Sink>(trace: &mut T, act: Act) -> Result<(), Failed>
-    ensures { Prints (T.taken trace.old) (T.taken trace.new) (T.faults trace.old) (T.faults trace.new) (act_text act) result }
-{
-    match act {
-        Act::Grant { group, seg } => write_seg(trace, b"grant ", group, seg),
-        Act::Free { group, seg } => write_seg(trace, b"free ", group, seg),
-        Act::Unalloc { group, seg } => write_seg(trace, b"unalloc ", group, seg),
-        Act::Miss { count } => write_number(trace, b"miss ", u64::from(count)),
-        Act::Shut => write_word(trace, b"shut"),
-        Act::Collect { group } => write_number(trace, b"collect ", group.0),
-        Act::Settle { group } => write_number(trace, b"settle ", group.0),
-        Act::Load => write_word(trace, b"load"),
-        Act::Unload => write_word(trace, b"unload"),
-        Act::Disable { worker } => write_number(trace, b"disable ", u64::from(worker)),
-        Act::Work { worker, kind, seg } => write_work(trace, worker, kind, seg),
-        Act::Enable { worker } => write_number(trace, b"enable ", u64::from(worker)),
+impl LaneNote for Noted {
+    ghost lane = { λ n. n.lane };
+
+    ghost text = { λ n. act_text n.act };
+
+    fn lane(&self) -> u8 {
+        self.lane
+    }
+
+    fn write<S: Sink>(&self, sink: &mut S) -> Result<(), Failed> {
+        match self.act {
+            Act::Grant { group, seg } => write_seg(sink, b"grant ", group, seg),
+            Act::Free { group, seg } => write_seg(sink, b"free ", group, seg),
+            Act::Unalloc { group, seg } => write_seg(sink, b"unalloc ", group, seg),
+            Act::Miss { count } => (Text(b"miss "), Number(u64::from(count))).write(sink),
+            Act::Shut => Text(b"shut").write(sink),
+            Act::Collect { group } => (Text(b"collect "), Number(group.0)).write(sink),
+            Act::Settle { group } => (Text(b"settle "), Number(group.0)).write(sink),
+            Act::Load => Text(b"load").write(sink),
+            Act::Unload => Text(b"unload").write(sink),
+            Act::Disable { worker } => (Text(b"disable "), Number(u64::from(worker))).write(sink),
+            Act::Work { worker, kind, seg } => write_work(sink, worker, kind, seg),
+            Act::Enable { worker } => (Text(b"enable "), Number(u64::from(worker))).write(sink),
+        }
     }
 }
 
-/// The line of a note at its place.
-fn write_noted<T: Sink>(trace: &mut T, place: u64, note: Noted) -> Result<(), Failed>
-    ensures { Prints (T.taken trace.old) (T.taken trace.new) (T.faults trace.old) (T.faults trace.new) (act_line place note) result }
-{
-    write_place(trace, place, note.lane)?;
-    write_act(trace, note.act)?;
-    write_word(trace, b"\n")
-}
+/// The first line of a metaslab's journal.
+#[derive(Clone, Copy)]
+struct Head<'a>(&'a MsJournal);
 
-pub fn write_acts<T: Sink>(trace: &mut T, notes: &[Noted]) -> Result<(), Failed>
-    ensures { Prints (T.taken trace.old) (T.taken trace.new) (T.faults trace.old) (T.faults trace.new) (numbered act_line 1 notes.now) result }
-{
-    for (at, note) in notes.iter().enumerate() {
-        write_noted(trace, at as u64 + 1, *note)?;
+impl Printed for Head<'_> {
+    ghost text = { λ h. metaslab_line h.0.now };
+
+    fn write<S: Sink>(&self, sink: &mut S) -> Result<(), Failed> {
+        let journal = self.0;
+        write_pieces(
+            sink,
+            &[
+                Text(b"metaslab "),
+                Number(u64::from(journal.id.vdev)),
+                Text(b" "),
+                Number(u64::from(journal.id.index)),
+                Text(b" units "),
+                Number(u64::from(journal.units)),
+                Text(b" shift "),
+                Number(u64::from(journal.ashift)),
+                Text(b" held "),
+                Number(u64::from(journal.held)),
+                Text(b"\n"),
+            ],
+        )
     }
-    Ok(())
 }
 
-fn write_metaslab_line<T: Sink>(trace: &mut T, journal: &MsJournal) -> Result<(), Failed>
-    ensures { Prints (T.taken trace.old) (T.taken trace.new) (T.faults trace.old) (T.faults trace.new) (metaslab_line journal.now) result }
-{
-    write_pieces(
-        trace,
-        &[
-            Piece::Text(b"metaslab "),
-            Piece::Number(u64::from(journal.id.vdev)),
-            Piece::Text(b" "),
-            Piece::Number(u64::from(journal.id.index)),
-            Piece::Text(b" units "),
-            Piece::Number(u64::from(journal.units)),
-            Piece::Text(b" shift "),
-            Piece::Number(u64::from(journal.ashift)),
-            Piece::Text(b" held "),
-            Piece::Number(u64::from(journal.held)),
-            Piece::Text(b"\n"),
-        ],
-    )
-}
+impl Printed for MsJournal {
+    ghost text = { metaslab_text };
 
-/// A metaslab's line, and those of its notes.
-fn write_metaslab<T: Sink>(trace: &mut T, journal: &MsJournal) -> Result<(), Failed>
-    ensures { Prints (T.taken trace.old) (T.taken trace.new) (T.faults trace.old) (T.faults trace.new) (metaslab_text journal.now) result }
-{
-    write_metaslab_line(trace, journal)?;
-    write_acts(trace, journal.notes.as_slice())
-}
-
-pub fn write_metaslabs<T: Sink>(trace: &mut T, journals: &[MsJournal]) -> Result<(), Failed>
-    ensures { Prints (T.taken trace.old) (T.taken trace.new) (T.faults trace.old) (T.faults trace.new) (flat_map metaslab_text journals.now) result }
-{
-    for journal in journals {
-        write_metaslab(trace, journal)?;
+    fn write<S: Sink>(&self, sink: &mut S) -> Result<(), Failed> {
+        (Head(self), Lines(&self.notes)).write(sink)
     }
-    Ok(())
 }
 
-/// The first line.
-pub fn write_opened<T: Sink>(trace: &mut T, group: Group) -> Result<(), Failed>
-    ensures { Prints (T.taken trace.old) (T.taken trace.new) (T.faults trace.old) (T.faults trace.new) (opened_line group) result }
-{
-    write_pieces(
-        trace,
-        &[
-            Piece::Text(b"trace 1 group "),
-            Piece::Number(group.0),
-            Piece::Text(b"\n"),
-        ],
-    )
+/// The first line of a trace.
+#[derive(Clone, Copy)]
+pub struct Opened(pub Group);
+
+impl Printed for Opened {
+    ghost text = { λ o. opened_line o.0 };
+
+    fn write<S: Sink>(&self, sink: &mut S) -> Result<(), Failed> {
+        (Text(b"trace 1 group "), Number(self.0.0), Text(b"\n")).write(sink)
+    }
 }
 
 /// Writes the trace of a pool whose classes and keeper have no journals: the opened group, and each metaslab with its
 /// notes. At `Err` the sink has taken a front of it. Takes no memory, and is linear in the notes.
-pub fn write_metaslab_trace<T: Sink>(trace: &mut T, journals: &Journals) -> Result<(), Failed>
-    ensures { Prints (T.taken trace.old) (T.taken trace.new) (T.faults trace.old) (T.faults trace.new) (metaslab_trace_text journals.now) result }
+pub fn write_metaslab_trace<S: Sink>(trace: &mut S, journals: &Journals) -> Result<(), Failed>
+    ensures { Prints (S.state trace.old) (S.state trace.new) (metaslab_trace_text journals.now) result }
 {
-    write_opened(trace, journals.opened)?;
-    write_metaslabs(trace, journals.metaslabs.as_slice())?;
-    write_word(trace, b"end\n")
+    (Opened(journals.opened), &journals.metaslabs, Text(b"end\n")).write(trace)
 }

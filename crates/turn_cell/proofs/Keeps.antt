@@ -2,6 +2,7 @@
 -- A state that does is `state log lock views`, with two words and one slot, so all that a step does to it computes.
 use Rattle.std.proofs.Common.{◌≡◌, ◌≢◌, ◌⊎◌, ℕ, zero, suc, ◌+◌, ◌*◌, ◌/◌, ◌%◌, ◌^◌, ◌≤◌, eqb, true, false, not, List, [], ◌∷◌, ◌++◌, map, length, get_or, set, refl, sym, ap, ◌∙◌, subst, inl, inr, ⊎_elim, arith, append_assoc, length-append, Option, Some}
 use Rattle.std.specs.Prelude.{is_some}
+use Rattle.std.proofs.lemmas.Bool.{and_parts, or_cases}
 use Rattle.std.proofs.lemmas.List.{append-nil}
 use Rattle.std.proofs.Math.Nat.{add-mul-mod_self_right, mod-add-div'}
 use mathlib.Core.Option.{none, some, some-injective, some-ne-none}
@@ -10,13 +11,17 @@ use lib.ListN.{get_elem?}
 use prog.Atomic.{either}
 use Rattle.atomic_table.specs.Table.{State, Me, step, Act, keeps, takes, gives, stepped, carried_after, Valid, Allows, Splits, Joins, opening, Final, Seen}
 use Rattle.atomic_table.proofs.Lists.{at_set, set_else}
-use Rattle.turn_cell.specs.Notes.{Own, Owns, IsPrefix, StandsFor, among, has, without, only}
+use Rattle.std.specs.List.{All}
+use Rattle.std.proofs.lemmas.List.Elements.{All-append, All-nil}
+use Rattle.turn_cell.specs.Notes.{Own, Owns, Low, IsPrefix, StandsFor, among, has, without, only, all_rights}
+use Rattle.turn_cell.specs.declared.kept.TheConstants.{MAX_RIGHT}
 use Rattle.turn_cell.specs.Rule.{Lock, free, out, shut, lock_word, lock_home, StageFits, AllSeen, Heard, Fits, Inside, Seats, Apart, Turns, newcomer}
 use Rattle.turn_cell.specs.Moves.{tried, glanced, learned_view, added, at_rest, left_of, part_of, joined, spent, grabbed, closed, released, noted, saw, learned}
 use Rattle.turn_cell.specs.declared.view.View.{View}
 use Rattle.turn_cell.specs.declared.view.Stage.{Stage}
 use Rattle.turn_cell.specs.declared.view.Stage.TheVariants.{Idle, Holding, Closing}
-use Rattle.turn_cell.proofs.Notes.{not_true, not_false, not_both, and_parts, or_cases, prefix_trans, Owns-more, Owns-other, Owns-filter, Owns-append, has-with_notes, has-append, has-filter}
+use Rattle.lane_steps.proofs.Steps.{prefix_trans}
+use Rattle.turn_cell.proofs.Notes.{not_true, not_false, not_both, Owns-more, Owns-other, Owns-filter, Owns-append, Low-filter, Low-append, Low-more, low_at, has-with_notes, has-append, has-filter}
 
 -- of lists
 
@@ -44,6 +49,10 @@ mod-add_one n m =
 Owns-none : {N : Type 0} (right : N → ℕ) (rights : List ℕ) → Owns right (map (λ r. (r, [])) rights) []
 Owns-none right [] = tt
 Owns-none right (r ∷ rights) = (refl, Owns-none right rights)
+
+-- the first rights are 0 to 16
+all_low : (N : Type 0) → Low (all_rights {N = N})
+all_low N = (omega arith, (omega arith, (omega arith, (omega arith, (omega arith, (omega arith, (omega arith, (omega arith, (omega arith, (omega arith, (omega arith, (omega arith, (omega arith, (omega arith, (omega arith, (omega arith, (omega arith, tt)))))))))))))))))
 
 Heard-longer : {N : Type 0} (log more : List N) (hs : List (List N)) → Heard log hs → Heard (log ++ more) hs
 Heard-longer log more [] t = tt
@@ -98,7 +107,7 @@ module _ {N F T : Type 0} (journal : T → List N) (right : N → ℕ) (stands :
   Rule = Turns journal right stands key
 
   abbrev In : List N → Lock T → Type 0
-  In = Inside journal right stands key
+  In log lock = Inside journal right stands key log lock × All (λ n. right n ≤ MAX_RIGHT) log
 
   abbrev Sits : List N → Lock T → List V → Type 0
   Sits = Seats journal right stands key
@@ -113,10 +122,10 @@ module _ {N F T : Type 0} (journal : T → List N) (right : N → ℕ) (stands :
   state log lock views = record { words = lock_word lock ∷ length log % 2 ^ 64 ∷ []; homes = lock_home lock ∷ []; views = views }
 
   kept : (log : List N) (lock : Lock T) (views : List V) → In log lock → Sits log lock views → Each views → Rule (state log lock views)
-  kept log lock views inside seats apart = record { log = log; lock = lock; words = refl; homes = refl; inside = inside; seats = seats; apart = apart }
+  kept log lock views inside seats apart = record { log = log; lock = lock; words = refl; homes = refl; inside = inside.0; ranged = inside.1; seats = seats; apart = apart }
 
   at_state : (P : St → Type 0) (s : St) (r : Rule s) → ((log : List N) (lock : Lock T) → In log lock → Sits log lock s.views → Each s.views → P (state log lock s.views)) → P s
-  at_state P s r each = subst P (λ k. record { words = sym r.words k; homes = sym r.homes k; views = s.views }) (each r.log r.lock r.inside r.seats r.apart)
+  at_state P s r each = subst P (λ k. record { words = sym r.words k; homes = sym r.homes k; views = s.views }) (each r.log r.lock (r.inside, r.ranged) r.seats r.apart)
 
   -- what one seat owes when it steps at this state
   abbrev Goes : ℕ → M → ℕ → (ℕ → ℕ) → (ℕ → M → Type 0) → St → Type 0
@@ -161,6 +170,7 @@ module _ {N F T : Type 0} (journal : T → List N) (right : N → ℕ) (stands :
     more = f.more;
     whole = f.whole;
     mine = f.mine;
+    low = f.low;
     heard = f.heard;
     stage = stage_moves lock lock' j v.stage o s f.stage;
     all_seen = f.all_seen;
@@ -173,6 +183,7 @@ module _ {N F T : Type 0} (journal : T → List N) (right : N → ℕ) (stands :
     more = f.more ++ n ∷ [];
     whole = ap (λ l. l ++ n ∷ []) f.whole ∙ append_assoc v.seen f.more (n ∷ []);
     mine = Owns-other right v.own log n lacks f.mine;
+    low = f.low;
     heard = Heard-longer log (n ∷ []) v.heard f.heard;
     stage = f.stage;
     all_seen = other_seen T i j f.more (f.more ++ n ∷ []) v.stage ne f.stage f.all_seen;
@@ -180,12 +191,13 @@ module _ {N F T : Type 0} (journal : T → List N) (right : N → ℕ) (stands :
 
   pub begins : (x : T) → journal x ≡ [] → stands key x → Rule (opening (0 ∷ 0 ∷ []) (Some x ∷ []) (newcomer key))
   begins x empty stand =
-      kept [] (free x) (newcomer key ∷ []) (empty, stand)
+      kept [] (free x) (newcomer key ∷ []) ((empty, stand), All-nil (λ n. right n ≤ MAX_RIGHT))
       (λ j v at live. let t = at_one (newcomer key) v j at in
       subst (λ (y : V). FitsAt [] (free x) j y) t.1 record {
         fixed = refl;
         more = [];
         whole = refl;
+        low = all_low N;
         mine = Owns-none right (0 ∷ 1 ∷ 2 ∷ 3 ∷ 4 ∷ 5 ∷ 6 ∷ 7 ∷ 8 ∷ 9 ∷ 10 ∷ 11 ∷ 12 ∷ 13 ∷ 14 ∷ 15 ∷ 16 ∷ []);
         heard = tt;
         stage = tt;
@@ -199,7 +211,7 @@ module _ {N F T : Type 0} (journal : T → List N) (right : N → ℕ) (stands :
   misses log lock views id me live inside seats apart at = let f = seats id me.0 at live in
       kept log lock (set views id (tried me.0 me.0.seen 1 Idle)) inside
       (seats_move log log lock lock views id (tried me.0 me.0.seen 1 Idle) seats
-      (λ _. record { fixed = f.fixed; more = f.more; whole = f.whole; mine = f.mine; heard = f.heard; stage = tt; all_seen = tt })
+      (λ _. record { fixed = f.fixed; more = f.more; whole = f.whole; mine = f.mine; low = f.low; heard = f.heard; stage = tt; all_seen = tt })
       (λ j v _ _ g. g))
       (apart_move views id me.0 (tried me.0 me.0.seen 1 Idle) at (λ r h. h) apart)
 
@@ -212,13 +224,13 @@ module _ {N F T : Type 0} (journal : T → List N) (right : N → ℕ) (stands :
         w,
         takes 0 (Some x),
         refl,
-        kept log (out id) (set views id w) tt
+        kept log (out id) (set views id w) (tt, inside.1)
             (seats_move log log (free x) (out id) views id w seats
-            (λ _. record { fixed = f.fixed; more = []; whole = sym inside.0 ∙ sym (append-nil (journal x)); mine = f.mine; heard = f.heard; stage = refl; all_seen = refl })
+            (λ _. record { fixed = f.fixed; more = []; whole = sym inside.0.0 ∙ sym (append-nil (journal x)); mine = f.mine; low = f.low; heard = f.heard; stage = refl; all_seen = refl })
             (λ j v ne _ g. fits_stays log (free x) (out id) j v (λ e. absurd (free_not_out x j e)) (λ y e. absurd (free_not_shut x j y e)) g))
             (apart_move views id me.0 w at (λ r h. h) apart),
         (
-          (λ _. (x, ((f.more, sym f.whole ∙ sym inside.0), (subst (Owns right me.0.own) (sym inside.0) f.mine, (subst (λ o. StandsFor stands o x) (sym f.fixed) inside.1, refl))))),
+          (λ _. (x, ((f.more, sym f.whole ∙ sym inside.0.0), (subst (Owns right me.0.own) (sym inside.0.0) f.mine, (subst (λ o. StandsFor stands o x) (sym f.fixed) inside.0.1, refl))))),
           λ ne. absurd (ne refl),
         ),
       )
@@ -238,7 +250,7 @@ module _ {N F T : Type 0} (journal : T → List N) (right : N → ℕ) (stands :
         tt,
         kept log (shut id x) (set views id w) inside
             (seats_move log log (free x) (shut id x) views id w seats
-            (λ _. record { fixed = f.fixed; more = f.more; whole = f.whole; mine = f.mine; heard = f.heard; stage = (x, refl); all_seen = tt })
+            (λ _. record { fixed = f.fixed; more = f.more; whole = f.whole; mine = f.mine; low = f.low; heard = f.heard; stage = (x, refl); all_seen = tt })
             (λ j v ne _ g. fits_stays log (free x) (shut id x) j v (λ e. absurd (free_not_out x j e)) (λ y e. absurd (free_not_shut x j y e)) g))
             (apart_move views id me.0 w at (λ r h. h) apart),
         ((λ _. refl), λ ne. absurd (ne refl)),
@@ -262,7 +274,7 @@ module _ {N F T : Type 0} (journal : T → List N) (right : N → ℕ) (stands :
         keeps,
         tt,
         looks log lock views id me.0 w inside seats apart at
-            record { fixed = f.fixed; more = []; whole = f.whole ∙ sym (append-nil (me.0.seen ++ f.more)); mine = f.mine; heard = tt; stage = f.stage; all_seen = all_seen_none N me.0.stage }
+            record { fixed = f.fixed; more = []; whole = f.whole ∙ sym (append-nil (me.0.seen ++ f.more)); mine = f.mine; low = f.low; heard = tt; stage = f.stage; all_seen = all_seen_none N me.0.stage }
             refl,
         (f.more, (subst (Owns right me.0.own) f.whole f.mine, (subst (λ l. Heard l me.0.heard) f.whole f.heard, (f.all_seen, refl)))),
       ))
@@ -274,7 +286,7 @@ module _ {N F T : Type 0} (journal : T → List N) (right : N → ℕ) (stands :
         keeps,
         tt,
         looks log lock views id me.0 w inside seats apart at
-            record { fixed = f.fixed; more = []; whole = f.whole ∙ sym (append-nil (me.0.seen ++ f.more)); mine = f.mine; heard = tt; stage = f.stage; all_seen = all_seen_none N me.0.stage }
+            record { fixed = f.fixed; more = []; whole = f.whole ∙ sym (append-nil (me.0.seen ++ f.more)); mine = f.mine; low = f.low; heard = tt; stage = f.stage; all_seen = all_seen_none N me.0.stage }
             refl,
         (f.more, (subst (Owns right me.0.own) f.whole f.mine, (subst (λ (l : List N). count ≤ length l) f.whole (mod_most (length log) (2 ^ 64)), refl))),
       ))
@@ -285,21 +297,27 @@ module _ {N F T : Type 0} (journal : T → List N) (right : N → ℕ) (stands :
       let all : f.more ≡ [] = subst (AllSeen f.more) holds f.all_seen in
       f.whole ∙ (ap (λ l. v.seen ++ l) all ∙ append-nil v.seen)
 
+  one_low : (n : N) → right n ≤ MAX_RIGHT → All (λ m. right m ≤ MAX_RIGHT) (n ∷ [])
+  one_low n le zero d lt = le
+  one_low n le (suc k) d lt = absurd (omega arith)
+
   -- the holder adds a note
-  notes_rule : (log : List N) (k id : ℕ) (views : List V) (v : V) (n : N) → k ≡ id → v.stage ≡ Holding → has v.own (right n) ≡ true → Sits log (out k) views → Each views → get_elem? views id ≡ some v → FitsAt log (out k) id v
+  notes_rule : (log : List N) (k id : ℕ) (views : List V) (v : V) (n : N) → k ≡ id → v.stage ≡ Holding → has v.own (right n) ≡ true → In log (out k) → Sits log (out k) views → Each views → get_elem? views id ≡ some v → FitsAt log (out k) id v
       → Rule record { words = 1 ∷ (length log % 2 ^ 64 + 1) % 2 ^ 64 ∷ []; homes = none ∷ []; views = set views id (added right (n ∷ []) v) }
-  notes_rule log k id views v n same holds owns seats apart at f = let w : V = added right (n ∷ []) v in record {
+  notes_rule log k id views v n same holds owns inside seats apart at f = let w : V = added right (n ∷ []) v in record {
     log = log ++ n ∷ [];
     lock = out k;
     words = λ i. 1 ∷ (mod-add_one (length log) (2 ^ 64) ∙ ap (λ (m : ℕ). m % 2 ^ 64) (sym (length-append log (n ∷ [])))) i ∷ [];
     homes = refl;
     inside = tt;
+    ranged = All-append (λ m. right m ≤ MAX_RIGHT) log (n ∷ []) inside.1 (one_low n (low_at v.own (right n) f.low owns));
     seats = seats_move log (log ++ n ∷ []) (out k) (out k) views id w seats
         (λ _. record {
           fixed = f.fixed;
           more = [];
           whole = ap (λ l. l ++ n ∷ []) (holder_whole log (out k) id v holds f) ∙ sym (append-nil (v.seen ++ n ∷ []));
           mine = Owns-more right v.own log (n ∷ []) f.mine;
+          low = Low-more right (n ∷ []) v.own f.low;
           heard = Heard-longer log (n ∷ []) v.heard f.heard;
           stage = f.stage;
           all_seen = all_seen_none N v.stage;
@@ -319,7 +337,7 @@ module _ {N F T : Type 0} (journal : T → List N) (right : N → ℕ) (stands :
           → Goes id me 1 (λ c. (c + 1) % 2 ^ 64) (noted right (n ∷ []) (step slots 1 1 0 none) me) (state log lock views)
       go log (free x) views inside seats apart at = absurd (free_not_out x id (stage_of log (free x) (seats id me.0 at live)))
       go log (out k) views inside seats apart at = let f = seats id me.0 at live in
-          (added right (n ∷ []) me.0, keeps, tt, notes_rule log k id views me.0 n (out_same k id (stage_of log (out k) f)) holds owns seats apart at f, refl)
+          (added right (n ∷ []) me.0, keeps, tt, notes_rule log k id views me.0 n (out_same k id (stage_of log (out k) f)) holds owns inside seats apart at f, refl)
       go log (shut k x) views inside seats apart at = absurd (shut_not_out id k x (stage_of log (shut k x) (seats id me.0 at live)))
 
   pub notes_as : (slots id : ℕ) (me : M) (n : N) (ns : List N) → ns ≡ n ∷ [] → is_some me.0.fixed ≡ true → me.0.stage ≡ Holding → has me.0.own (right n) ≡ true
@@ -341,9 +359,9 @@ module _ {N F T : Type 0} (journal : T → List N) (right : N → ℕ) (stands :
         at_rest v,
         gives,
         tt,
-        kept log (free x) (set views id (at_rest v)) (same ∙ sym (holder_whole log (out k) id v holds f), subst (λ o. StandsFor stands o x) f.fixed stand)
+        kept log (free x) (set views id (at_rest v)) ((same ∙ sym (holder_whole log (out k) id v holds f), subst (λ o. StandsFor stands o x) f.fixed stand), inside.1)
             (seats_move log log (out k) (free x) views id (at_rest v) seats
-            (λ _. record { fixed = f.fixed; more = f.more; whole = f.whole; mine = f.mine; heard = f.heard; stage = tt; all_seen = tt })
+            (λ _. record { fixed = f.fixed; more = f.more; whole = f.whole; mine = f.mine; low = f.low; heard = f.heard; stage = tt; all_seen = tt })
             (λ j u ne _ g. fits_stays log (out k) (free x) j u (λ e. absurd (ne (sym (out_same k j e) ∙ here))) (λ y e. absurd (out_not_shut k j y e)) g))
             (apart_move views id v (at_rest v) at (λ r h. h) apart),
         refl,
@@ -365,7 +383,7 @@ module _ {N F T : Type 0} (journal : T → List N) (right : N → ℕ) (stands :
   pub splits : (id : ℕ) (v : V) (gone : List ℕ) → is_some v.fixed ≡ true → Splits Rule id v (left_of gone v) (part_of gone v)
   splits id v gone live s r at = let f = r.seats id v at live in let left : V = left_of gone v in let part : V = part_of gone v in
       let moved = seats_move r.log r.log r.lock r.lock s.views id left r.seats
-      (λ _. record { fixed = f.fixed; more = f.more; whole = f.whole; mine = Owns-filter right (λ e. not (among gone e.0)) v.own r.log f.mine; heard = f.heard; stage = f.stage; all_seen = f.all_seen })
+      (λ _. record { fixed = f.fixed; more = f.more; whole = f.whole; mine = Owns-filter right (λ e. not (among gone e.0)) v.own r.log f.mine; low = Low-filter (λ e. not (among gone e.0)) v.own f.low; heard = f.heard; stage = f.stage; all_seen = f.all_seen })
       (λ j u _ _ g. g) in
       let fewer : (x : ℕ) → has left.own x ≡ true → has v.own x ≡ true = λ x h. (without_has gone v.own x h).1 in
       record {
@@ -374,12 +392,13 @@ module _ {N F T : Type 0} (journal : T → List N) (right : N → ℕ) (stands :
         words = r.words;
         homes = r.homes;
         inside = r.inside;
+        ranged = r.ranged;
         seats = λ j u there alive.
             ⊎_elim
             (λ (t : get_elem? (set s.views id left) j ≡ some u). moved j u t alive)
             (λ (t : (j ≡ length (set s.views id left)) × (part ≡ u)).
             subst (FitsAt r.log r.lock j) t.1
-            record { fixed = f.fixed; more = f.more; whole = f.whole; mine = Owns-filter right (λ e. among gone e.0) v.own r.log f.mine; heard = f.heard; stage = tt; all_seen = tt })
+            record { fixed = f.fixed; more = f.more; whole = f.whole; mine = Owns-filter right (λ e. among gone e.0) v.own r.log f.mine; low = Low-filter (λ e. among gone e.0) v.own f.low; heard = f.heard; stage = tt; all_seen = tt })
             (at_end (set s.views id left) part u j there);
         apart = λ i j x a b ne ai aj ha hb.
             ⊎_elim
@@ -414,6 +433,7 @@ module _ {N F T : Type 0} (journal : T → List N) (right : N → ℕ) (stands :
         more = f.more;
         whole = f.whole;
         mine = Owns-append right v.own u.own r.log f.mine g.mine;
+        low = Low-append v.own u.own f.low g.low;
         heard = ((f.more, sym f.whole), ((g.more, sym g.whole), f.heard));
         stage = f.stage;
         all_seen = f.all_seen;
@@ -425,6 +445,7 @@ module _ {N F T : Type 0} (journal : T → List N) (right : N → ℕ) (stands :
         words = r.words;
         homes = r.homes;
         inside = r.inside;
+        ranged = r.ranged;
         seats = seats_move r.log r.log r.lock r.lock vs other spent moved (λ e. absurd (not_false e)) (λ j x _ _ h. h);
         apart = λ i j x a b ne ai aj ha hb.
             ⊎_elim
@@ -467,6 +488,7 @@ module _ {N F T : Type 0} (journal : T → List N) (right : N → ℕ) (stands :
     pub is : y ≡ Some value
     pub begins : IsPrefix v.seen (journal value)
     pub owns : Owns right v.own (journal value)
+    pub low : All (λ n. right n ≤ MAX_RIGHT) (journal value)
     pub stand : StandsFor stands v.fixed value
 
   pub ended : (id : ℕ) (v v' : V) (words : List ℕ) (slots : List (Option T)) (y : Option T) → v' ≡ tried v v.seen 0 Closing → is_some v.fixed ≡ true
@@ -476,18 +498,26 @@ module _ {N F T : Type 0} (journal : T → List N) (right : N → ℕ) (stands :
       let x : T = f.stage.0 in
       let home : s.homes ≡ some (Some x) ∷ [] = r.homes ∙ ap (λ (l : Lock T). lock_home l ∷ []) f.stage.1 in
       let there : get_elem? slots 0 ≡ some (Some x) = last.4 0 (Some x) (ap (λ (hs : List (maybe.Option (Option T))). get_elem? hs 0) home) in
-      let inside : (journal x ≡ r.log) × stands key x = subst (In r.log) f.stage.1 r.inside in
+      let inside : In r.log (shut id x) = subst (In r.log) f.stage.1 (r.inside, r.ranged) in
       record {
         value = x;
         is = some-injective y (Some x) (sym at ∙ there);
-        begins = (f.more, sym f.whole ∙ sym inside.0);
-        owns = subst (Owns right v.own) (sym inside.0) f.mine;
-        stand = subst (λ o. StandsFor stands o x) (sym f.fixed) inside.1;
+        begins = (f.more, sym f.whole ∙ sym inside.0.0);
+        owns = subst (Owns right v.own) (sym inside.0.0) f.mine;
+        low = subst (All (λ n. right n ≤ MAX_RIGHT)) (sym inside.0.0) inside.1;
+        stand = subst (λ o. StandsFor stands o x) (sym f.fixed) inside.0.1;
       }
 
   pub ended_some : (v : V) (y : Option T) → Ended v y → is_some y ≡ true
   ended_some v y e = ap is_some e.is
 
-  pub ended_at : (v : V) (y : Option T) (z : T) → Ended v y → y ≡ Some z → (IsPrefix v.seen (journal z) × Owns right v.own (journal z)) × StandsFor stands v.fixed z
+  ended_at : (v : V) (y : Option T) (z : T) → Ended v y → y ≡ Some z
+      → IsPrefix v.seen (journal z) × (Owns right v.own (journal z) × (StandsFor stands v.fixed z × All (λ n. right n ≤ MAX_RIGHT) (journal z)))
   ended_at v y z e is =
-      subst (λ (x : T). (IsPrefix v.seen (journal x) × Owns right v.own (journal x)) × StandsFor stands v.fixed x) (some_same y e.value z e.is is) ((e.begins, e.owns), e.stand)
+      subst (λ (x : T). IsPrefix v.seen (journal x) × (Owns right v.own (journal x) × (StandsFor stands v.fixed x × All (λ n. right n ≤ MAX_RIGHT) (journal x))))
+      (some_same y e.value z e.is is) (e.begins, (e.owns, (e.stand, e.low)))
+
+  pub closed_gives : (id : ℕ) (v v' : V) (words : List ℕ) (slots : List (Option T)) (y : Option T) (z : T) → v' ≡ tried v v.seen 0 Closing → is_some v.fixed ≡ true
+      → Final (Seen Rule id v') words slots → get_elem? slots 0 ≡ some y → y ≡ Some z
+      → IsPrefix v.seen (journal z) × (Owns right v.own (journal z) × (StandsFor stands v.fixed z × All (λ n. right n ≤ MAX_RIGHT) (journal z)))
+  closed_gives id v v' words slots y z is live last at value = ended_at v y z (ended id v v' words slots y is live last at) value

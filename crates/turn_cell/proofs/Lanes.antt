@@ -1,14 +1,13 @@
--- A lane's pass, over the calls of a turn.
-use Rattle.std.proofs.Common.{◌≡◌, ℕ, true, false, List, [], ◌∷◌, ◌++◌, refl, sym, ap, ◌∙◌, subst, Option}
+-- A lane's pass, over the calls of a turn, and what the closed journal has of several lanes.
+use Rattle.std.proofs.Common.{◌≡◌, ℕ, zero, suc, ◌<◌, length, get_or, map, arith, true, false, List, [], ◌∷◌, ◌++◌, refl, sym, ap, ◌∙◌, subst, Option}
 use Rattle.std.specs.Prelude.{IfSome}
 use Rattle.std.specs.Option.{option_to_list}
+use Rattle.std.specs.List.{All}
 use Rattle.std.proofs.lemmas.List.{append-nil}
-use Rattle.turn_cell.specs.Notes.{notes_at, Own, Owns, IsPrefix, with_notes}
-use Rattle.turn_cell.specs.Steps.{Step, Follows, Settled, Ends}
+use Rattle.lane_steps.proofs.Steps.{notes_at-append, prefix_trans, quiet_of, quiet_none, follows_both, follows_settled}
+use Rattle.turn_cell.specs.Notes.{notes_at, Own, Owns, IsPrefix, Ends, with_notes}
 use Rattle.turn_cell.specs.Known.{Known, TableId}
-use Rattle.turn_cell.specs.Lanes.{Ready, Went, fresh}
-use Rattle.turn_cell.proofs.Notes.{notes_at-append}
-use Rattle.turn_cell.proofs.Steps.{quiet_of, quiet_same, follows_both, follows_settled, settled_two}
+use Rattle.turn_cell.specs.Lanes.{Step, Follows, Settled, Ready, Went, fresh}
 
 -- what the pass has as its own is what the journal has, as far as it is seen
 owned : {N : Type 0} (right : N → ℕ) (lane : ℕ) (own : Own N) (h j : List N) → own ≡ (lane, notes_at right lane h) ∷ [] → Owns right own j → notes_at right lane h ≡ notes_at right lane j
@@ -22,7 +21,7 @@ module _ {N F : Type 0} (right : N → ℕ) (lane : ℕ) where
   ready_after turn steps p q r w = record { at = w.at ∙ r.at; idle = w.idle; own = w.own }
 
   pub went_none : (turn : TableId) (p : Known N F) → Ready right lane turn p → Went right lane [] p p
-  went_none turn p r = record { at = refl; fixed = refl; idle = r.idle; own = r.own; follows = quiet_same right lane p.seen }
+  went_none turn p r = record { at = refl; fixed = refl; idle = r.idle; own = r.own; follows = quiet_none right lane p.seen }
 
   pub went_both : (ss ts : List (Step N)) (p q r : Known N F) → Went right lane ss p q → Went right lane ts q r → Went right lane (ss ++ ts) p r
   went_both ss ts p q r v w = record {
@@ -70,6 +69,30 @@ module _ {N F : Type 0} (right : N → ℕ) (lane : ℕ) where
   -- from a pass to the closed journal
   pub went_settled : (steps : List (Step N)) (p q : Known N F) (j : List N) → Went right lane steps p q → p.seen ≡ [] → Settled right lane q.seen j → Follows right lane [] steps j
   went_settled steps p q j w empty settled = subst (λ h. Follows right lane h steps j) empty (follows_settled right lane p.seen steps q.seen j w.follows settled)
+
+module _ {N : Type 0} (right : N → ℕ) where
+  -- lanes, each with the journal as it knew it: what they have as their own
+  abbrev pub own_of : List (ℕ × List N) → Own N
+  own_of lanes = map (λ e. (e.0, notes_at right e.0 e.1)) lanes
+
+  own_of-at : (lanes : List (ℕ × List N)) (j : List N) → Owns right (own_of lanes) j → (k : ℕ) (d : ℕ × List N) → k < length lanes
+      → notes_at right (get_or lanes k d).0 (get_or lanes k d).1 ≡ notes_at right (get_or lanes k d).0 j
+  own_of-at [] j w k d lt = absurd (omega arith)
+  own_of-at (e ∷ lanes) j w zero d lt = w.0
+  own_of-at (e ∷ lanes) j w (suc k) d lt = own_of-at lanes j w.1 k d (omega arith)
+
+  -- lanes whose passes were joined knew all their notes of the journal
+  pub settled_all : (lanes : List (ℕ × List N)) (h j : List N) → All (λ e. IsPrefix e.1 h) lanes → Ends right (own_of lanes) h j → All (λ e. Settled right e.0 e.1 j) lanes
+  settled_all lanes h j known ends k d lt = record {
+    begins = prefix_trans (get_or lanes k d).1 h j (known k d lt) ends.begins;
+    same = own_of-at lanes j ends.owns k d lt;
+  }
+
+  pub settled_two : (a b : ℕ) (p q h j : List N) → IsPrefix p h × IsPrefix q h → Ends right (own_of ((a, p) ∷ (b, q) ∷ [])) h j → Settled right a p j × Settled right b q j
+  settled_two a b p q h j known ends = (
+    record { begins = prefix_trans p h j known.0 ends.begins; same = ends.owns.0 },
+    record { begins = prefix_trans q h j known.1 ends.begins; same = ends.owns.1.0 },
+  )
 
 -- two lanes whose passes were joined, and what the closed journal has of them
 pub settled_both : {N F : Type 0} (right : N → ℕ) (a b : ℕ) (turn : TableId) (p q : Known N F) (own : Own N) (h j : List N) → Ready right a turn p → Ready right b turn q → own ≡ p.own ++ q.own

@@ -1,10 +1,12 @@
 -- Notes, and what a holder of rights knows of them.
-use Rattle.std.proofs.Common.{◌≡◌, ◌⊎◌, ℕ, eqb, ◌||◌, ◌&&◌, ◌++◌, Bool, true, false, not, cond, List, [], ◌∷◌, refl, sym, ap, ◌∙◌, subst, inl, inr, append_assoc, eqb-true, ⊎_elim}
-use Rattle.std.proofs.lemmas.Bool.{or_parts}
+use Rattle.std.proofs.Common.{◌≡◌, ℕ, eqb, ◌≤◌, ◌||◌, ◌&&◌, ◌++◌, Bool, true, false, not, cond, List, [], ◌∷◌, refl, sym, ap, ◌∙◌, subst, eqb-true, ⊎_elim}
+use Rattle.std.proofs.lemmas.Bool.{or_parts, or_cases}
 use Rattle.std.proofs.lemmas.Bool.Decides.{eqb_tells}
 use Rattle.std.proofs.lemmas.List.{append-nil}
 use Rattle.std.specs.List.{filter}
-use Rattle.turn_cell.specs.Notes.{notes_at, Own, Owns, IsPrefix, has, own_at, with_notes}
+use Rattle.lane_steps.proofs.Steps.{notes_at-append}
+use Rattle.turn_cell.specs.Notes.{notes_at, Own, Owns, Low, has, own_at, with_notes}
+use Rattle.turn_cell.specs.declared.kept.TheConstants.{MAX_RIGHT}
 
 -- of Bool
 
@@ -19,14 +21,6 @@ pub not_both : (b : Bool) → b ≡ true → not b ≡ true → ⊥
 not_both true e n = not_false n
 not_both false e n = not_false e
 
-pub and_parts : (a b : Bool) → (a && b) ≡ true → (a ≡ true) × (b ≡ true)
-and_parts true b e = (refl, e)
-and_parts false b e = absurd (not_false e)
-
-pub or_cases : (a b : Bool) → (a || b) ≡ true → (a ≡ true) ⊎ (b ≡ true)
-or_cases true b e = inl refl
-or_cases false b e = inr e
-
 kept_or : (b k h : Bool) → (k ≡ true → true ≡ b) → (k || (b && h)) ≡ (b && (k || h))
 kept_or b true h e = subst (λ x. true ≡ (x && true)) (e refl) refl
 kept_or b false h e = refl
@@ -39,29 +33,9 @@ or_assoc : (a b c : Bool) → (a || (b || c)) ≡ ((a || b) || c)
 or_assoc true b c = refl
 or_assoc false b c = refl
 
--- of prefixes
-
-module _ {N : Type 0} where
-  pub prefix_whole : (h : List N) → IsPrefix h h
-  prefix_whole h = ([], append-nil h)
-
-  pub prefix_trans : (h i j : List N) → IsPrefix h i → IsPrefix i j → IsPrefix h j
-  prefix_trans h i j p q = (p.0 ++ q.0, sym (append_assoc h p.0 q.0) ∙ (ap (λ l. l ++ q.0) p.1 ∙ q.1))
-
--- of filters
-
-pub filter-append : {X : Type 0} (p : X → Bool) (xs ys : List X) → filter p (xs ++ ys) ≡ filter p xs ++ filter p ys
-filter-append p [] ys = refl
-filter-append p (x ∷ xs) ys =
-    elim (p x) as (λ b. cond b (x ∷ filter p (xs ++ ys)) (filter p (xs ++ ys)) ≡ cond b (x ∷ filter p xs) (filter p xs) ++ filter p ys) [
-      | true ↦ ap (λ l. x ∷ l) (filter-append p xs ys)
-      | false ↦ filter-append p xs ys
-    ]
+-- of rights
 
 module _ {N : Type 0} (right : N → ℕ) where
-  pub notes_at-append : (r : ℕ) (xs ys : List N) → notes_at right r (xs ++ ys) ≡ notes_at right r xs ++ notes_at right r ys
-  notes_at-append r xs ys = filter-append (λ n. eqb r (right n)) xs ys
-
   -- a note that needs another right
   pub notes_at-other : (r : ℕ) (n : N) → eqb r (right n) ≡ false → notes_at right r (n ∷ []) ≡ []
   notes_at-other r n e = ap (λ b. cond b (n ∷ []) []) e
@@ -78,14 +52,14 @@ module _ {N : Type 0} (right : N → ℕ) where
   pub Owns-more : (own : Own N) (log notes : List N) → Owns right own log → Owns right (with_notes right notes own) (log ++ notes)
   Owns-more [] log notes w = tt
   Owns-more (e ∷ own) log notes w =
-      (ap (λ l. l ++ notes_at right e.0 notes) w.0 ∙ sym (notes_at-append e.0 log notes), Owns-more own log notes w.1)
+      (ap (λ l. l ++ notes_at right e.0 notes) w.0 ∙ sym (notes_at-append right e.0 log notes), Owns-more own log notes w.1)
 
   -- a note is added that needs none of the rights
   pub Owns-other : (own : Own N) (log : List N) (n : N) → has own (right n) ≡ false → Owns right own log → Owns right own (log ++ n ∷ [])
   Owns-other [] log n none w = tt
   Owns-other (e ∷ own) log n none w =
       let parts = or_parts (eqb e.0 (right n)) (has own (right n)) none in (
-        w.0 ∙ (sym (append-nil (notes_at right e.0 log)) ∙ (ap (λ l. notes_at right e.0 log ++ l) (sym (notes_at-other e.0 n parts.0)) ∙ sym (notes_at-append e.0 log (n ∷ [])))),
+        w.0 ∙ (sym (append-nil (notes_at right e.0 log)) ∙ (ap (λ l. notes_at right e.0 log ++ l) (sym (notes_at-other e.0 n parts.0)) ∙ sym (notes_at-append right e.0 log (n ∷ [])))),
         Owns-other own log n parts.1 w.1,
       )
 
@@ -127,6 +101,30 @@ module _ {N : Type 0} (right : N → ℕ) where
       (eqb_tells e.0 r)
 
 module _ {N : Type 0} where
+  pub Low-filter : (p : ℕ × List N → Bool) (own : Own N) → Low own → Low (filter p own)
+  Low-filter p [] w = tt
+  Low-filter p (e ∷ own) w =
+      elim (p e) as (λ b. Low (cond b (e ∷ filter p own) (filter p own))) [
+        | true ↦ (w.0, Low-filter p own w.1)
+        | false ↦ Low-filter p own w.1
+      ]
+
+  pub Low-append : (a b : Own N) → Low a → Low b → Low (a ++ b)
+  Low-append [] b v w = w
+  Low-append (e ∷ a) b v w = (v.0, Low-append a b v.1 w)
+
+  pub Low-more : (right : N → ℕ) (notes : List N) (own : Own N) → Low own → Low (with_notes right notes own)
+  Low-more right notes [] w = tt
+  Low-more right notes (e ∷ own) w = (w.0, Low-more right notes own w.1)
+
+  pub low_at : (own : Own N) (r : ℕ) → Low own → has own r ≡ true → r ≤ MAX_RIGHT
+  low_at [] r w h = absurd (not_false h)
+  low_at (e ∷ own) r w h =
+      ⊎_elim
+      (λ (t : eqb e.0 r ≡ true). subst (λ (x : ℕ). x ≤ MAX_RIGHT) (eqb-true e.0 r t) w.0)
+      (λ (t : has own r ≡ true). low_at own r w.1 t)
+      (or_cases (eqb e.0 r) (has own r) h)
+
   pub has-append : (a b : Own N) (r : ℕ) → has (a ++ b) r ≡ (has a r || has b r)
   has-append [] b r = refl
   has-append (e ∷ a) b r = ap (λ x. eqb e.0 r || x) (has-append a b r) ∙ or_assoc (eqb e.0 r) (has a r) (has b r)

@@ -1,7 +1,7 @@
 -- The pass of a lane, which has one right: the lane's number.
 use Rattle.std.specs.Prelude.{◌≡◌, ℕ, false, List, [], ◌∷◌, Some}
 use Rattle.turn_cell.specs.Notes.{notes_at}
-use Rattle.turn_cell.specs.Steps.{Step, Follows}
+pub use Rattle.lane_steps.specs.Steps.{Step, look, noting, after, notes_of, Quiet, Follows, Settled}
 use Rattle.turn_cell.specs.Known.{Known, TableId}
 
 module _ {N F : Type 0} (right : N → ℕ) (lane : ℕ) where

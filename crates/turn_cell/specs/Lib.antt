@@ -1,5 +1,4 @@
 pub mod Notes
-pub mod Steps
 pub mod Known
 pub mod Lanes
 pub mod Rule

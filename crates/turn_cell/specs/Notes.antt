@@ -1,12 +1,9 @@
 -- A journal is a list of notes. Each note needs a right, which is a number.
 -- What one holder knows of its own notes: for each of its rights, the notes that need it, in order.
-use Rattle.std.specs.Prelude.{◌≡◌, ℕ, ◌==◌, ◌||◌, Bool, false, not, if◌then◌else◌, List, [], ◌∷◌, ◌++◌, map, Option, Some, None}
+use Rattle.std.specs.Prelude.{◌≡◌, ℕ, ◌≤◌, ◌==◌, ◌||◌, Bool, false, not, if◌then◌else◌, List, [], ◌∷◌, ◌++◌, map, Option, Some, None}
 use Rattle.std.specs.List.{filter, list_any}
-pub use mathlib.Core.List.{IsPrefix}
-
--- the notes that need the right r, in order
-abbrev pub notes_at : {N : Type 0} → (N → ℕ) → ℕ → List N → List N
-notes_at right r notes = filter (λ n. r == right n) notes
+use Rattle.turn_cell.specs.declared.kept.TheConstants.{MAX_RIGHT}
+pub use Rattle.lane_steps.specs.Steps.{notes_at, IsPrefix}
 
 -- rights, each with its notes
 abbrev pub Own : Type 0 → Type 0
@@ -32,6 +29,11 @@ module _ {N : Type 0} where
   Owns right [] journal = Unit {0}
   Owns right (e ∷ own) journal = (e.1 ≡ notes_at right e.0 journal) × Owns right own journal
 
+  -- each of the rights is 0 to 16
+  abbrev pub Low : Own N → Type 0
+  Low [] = Unit {0}
+  Low (e ∷ own) = (e.0 ≤ MAX_RIGHT) × Low own
+
   -- the rights after these notes were added to the journal
   abbrev pub with_notes : (N → ℕ) → List N → Own N → Own N
   with_notes right notes own = map (λ e. (e.0, e.1 ++ notes_at right e.0 notes)) own
@@ -49,6 +51,11 @@ module _ {N : Type 0} where
   all_rights =
       (0, []) ∷ (1, []) ∷ (2, []) ∷ (3, []) ∷ (4, []) ∷ (5, []) ∷ (6, []) ∷ (7, []) ∷ (8, []) ∷ (9, [])
       ∷ (10, []) ∷ (11, []) ∷ (12, []) ∷ (13, []) ∷ (14, []) ∷ (15, []) ∷ (16, []) ∷ []
+
+-- h begins the journal j, and these rights have all their notes of it
+pub record Ends {N : Type 0} (right : N → ℕ) (own : Own N) (h j : List N) : Type 0 where
+  pub begins : IsPrefix h j
+  pub owns : Owns right own j
 
 -- the value stands for the fixed part, which is known
 abbrev pub StandsFor : {T F : Type 0} → (F → T → Type 0) → Option F → T → Type 0

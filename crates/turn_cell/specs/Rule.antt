@@ -1,9 +1,11 @@
 -- What holds of a turn between any two atomic steps. Word 0 is the lock, word 1 counts the notes, and the slot has the value.
-use Rattle.std.specs.Prelude.{◌≡◌, ◌≢◌, ℕ, ◌%◌, ◌^◌, Bool, true, false, List, [], ◌∷◌, ◌++◌, length, Option, Some, None, is_some}
+use Rattle.std.specs.Prelude.{◌≡◌, ◌≢◌, ℕ, ◌≤◌, ◌%◌, ◌^◌, Bool, true, false, List, [], ◌∷◌, ◌++◌, length, Option, Some, None, is_some}
 use mathlib.Core.Option as maybe
 use lib.ListN.{get_elem?}
 use Rattle.atomic_table.specs.Table.{State, Me}
-use Rattle.turn_cell.specs.Notes.{Owns, IsPrefix, has, all_rights}
+use Rattle.std.specs.List.{All}
+use Rattle.turn_cell.specs.Notes.{Owns, Low, IsPrefix, has, all_rights}
+use Rattle.turn_cell.specs.declared.kept.TheConstants.{MAX_RIGHT}
 use Rattle.turn_cell.specs.Known.{Known, TableId}
 use Rattle.turn_cell.specs.declared.view.View.{View}
 use Rattle.turn_cell.specs.declared.view.Stage.{Stage}
@@ -47,6 +49,7 @@ pub record Fits {N F T : Type 0} (right : N → ℕ) (key : F) (log : List N) (l
   pub more : List N
   pub whole : log ≡ v.seen ++ more
   pub mine : Owns right v.own log
+  pub low : Low v.own
   pub heard : Heard log v.heard
   pub stage : StageFits lock seat v.stage
   pub all_seen : AllSeen more v.stage
@@ -68,13 +71,14 @@ module _ {N F T : Type 0} (journal : T → List N) (right : N → ℕ) (stands :
       (i j r : ℕ) (u v : View N F)
       → i ≢ j → get_elem? views i ≡ maybe.some u → get_elem? views j ≡ maybe.some v → has u.own r ≡ true → has v.own r ≡ true → ⊥
 
-  -- there is one journal, which the value stores while it is at home, and whose length the count has
+  -- there is one journal, which the value stores while it is at home, whose length the count has, and whose notes need rights 0 to 16
   pub record Turns (s : State (Option T) (View N F)) : Type 0 where
     pub log : List N
     pub lock : Lock T
     pub words : s.words ≡ lock_word lock ∷ length log % 2 ^ 64 ∷ []
     pub homes : s.homes ≡ lock_home lock ∷ []
     pub inside : Inside log lock
+    pub ranged : All (λ n. right n ≤ MAX_RIGHT) log
     pub seats : Seats log lock s.views
     pub apart : Apart s.views
 

@@ -1,10 +1,11 @@
 //! The turn and its calls.
 ghost use Rattle.std.specs.Prelude.{◌≡◌, ◌≤◌, ℕ, true, false, [], ◌∷◌, ◌++◌, length, replicate, Some, IfOk, IfErr, IfSome, IfNone};
+ghost use Rattle.std.specs.List.{All};
 ghost use Rattle.std.specs.Option.{option_to_list};
 ghost use Rattle.turn_cell.specs.Notes.{IsPrefix, Owns, StandsFor, has, with_notes, without, only, all_rights};
 
 use crate::held::Held;
-use crate::kept::Kept;
+use crate::kept::{Kept, MAX_RIGHT};
 use crate::law::Law;
 use crate::pass::Pass;
 use crate::plays::{Add, Cut, Glance, Glue, Grab, Learn, Parts, Release, Says, Shut};
@@ -226,6 +227,7 @@ impl<T: Kept> Turn<T> {
         requires idle { pass.out ≡ false }
         ensures seen { IfOk result (λ x. IsPrefix pass.seen (T.journal x) × Owns T.right pass.own (T.journal x)) }
         ensures stands { IfOk result (λ x. StandsFor T.stands pass.fixed x) }
+        ensures rights { IfOk result (λ x. All (λ n. T.right n ≤ MAX_RIGHT) (T.journal x)) }
         ensures err { IfErr result (λ r. (r.0 ≡ self) × (r.1 ≡ record pass { tries = pass.tries ++ 1 ∷ [] })) }
     {
         let found = self

@@ -3,14 +3,14 @@ use Rattle.std.proofs.Common.{◌≡◌, ℕ, zero, suc, ◌+◌, ◌*◌, ◌^�
 use Rattle.std.specs.List.{All}
 use Rattle.std.proofs.lemmas.Bool.Decides.{eqb_tells}
 use Rattle.std.proofs.lemmas.List.Elements.{All-head, All-tail}
-use Rattle.ms_model.specs.Parts.{gate_right}
+use Rattle.ms_model.specs.Parts.{IsByLane, gate_right}
 use Rattle.ms_model.specs.Steps.{notes_at}
 use Rattle.ms_model.specs.Gates.{open_group, IsGateLegal, is_closing, closings}
 use Rattle.ms_model.proofs.GateGroups.{gate_facts}
-use Rattle.ms_model.proofs.Totals.{count_by_cons}
+use Rattle.zms_units.proofs.Counting.{count_cons}
 use Rattle.ms_model.specs.declared.notes.GateNote.{GateNote}
 use Rattle.ms_model.specs.declared.notes.GateNote.TheVariants.{Closed, Settled}
-use Rattle.txg_gate.specs.Closings.{closings_of, IsByLane, AreFew}
+use Rattle.txg_gate.specs.Closings.{closings_of, AreFew}
 
 -- the closings of the lanes 1 to k
 of_lanes : ℕ → List GateNote → ℕ
@@ -50,9 +50,9 @@ closings_few : (h : List GateNote) → All IsByLane h → closings h ≤ of_lane
 closings_few [] lanes = omega arith
 closings_few (Closed lane group ∷ h) lanes =
     let own = All-head IsByLane (Closed lane group) h lanes in
-    omega (arith, count_by_cons is_closing (Closed lane group) h, closings_few h (All-tail IsByLane (Closed lane group) h lanes), of_lanes_more 16 (Closed lane group) h own.0 own.1)
+    omega (arith, count_cons is_closing (Closed lane group) h, closings_few h (All-tail IsByLane (Closed lane group) h lanes), of_lanes_more 16 (Closed lane group) h own.0 own.1)
 closings_few (Settled group ∷ h) lanes =
-    omega (arith, count_by_cons is_closing (Settled group) h, closings_few h (All-tail IsByLane (Settled group) h lanes), of_lanes_grow 16 (Settled group) h)
+    omega (arith, count_cons is_closing (Settled group) h, closings_few h (All-tail IsByLane (Settled group) h lanes), of_lanes_grow 16 (Settled group) h)
 
 -- no pool that is opened below 2^49 comes to the group 2^50
 pub open_small : (opened : ℕ) (h : List GateNote) → opened < 2 ^ 49 → IsGateLegal opened h → AreFew h → open_group opened h < 2 ^ 50

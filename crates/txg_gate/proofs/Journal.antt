@@ -4,14 +4,14 @@ use Rattle.std.proofs.Math.Dec.{eqb-suc-zero}
 use Rattle.std.proofs.lemmas.Bool.Decides.{eqb_tells}
 use Rattle.std.proofs.lemmas.List.Elements.{All-push, filter-append}
 use Rattle.ms_model.specs.Gates.{open_group, synced_group, MayPass, IsGateLegal}
-use Rattle.ms_model.specs.Parts.{gate_right}
+use Rattle.ms_model.specs.Parts.{IsByLane, gate_right}
 use Rattle.ms_model.specs.Steps.{notes_at}
 use Rattle.ms_model.specs.declared.notes.GateNote.{GateNote}
 use Rattle.ms_model.specs.declared.notes.GateNote.TheVariants.{Closed, Settled}
 use Rattle.zms_units.specs.declared.segments.Group.{Group}
 use Rattle.ms_model.proofs.Lists.{Standing, is_last, is_earlier, standing}
 use Rattle.ms_model.proofs.GateGroups.{open_group-push, synced_group-push}
-use Rattle.txg_gate.specs.Closings.{closings_of, IsByLane, AreFew}
+use Rattle.txg_gate.specs.Closings.{closings_of, AreFew}
 
 push_at : (opened : ℕ) (h : List GateNote) (n : GateNote) → IsGateLegal opened h → MayPass opened h n
     → (before : List GateNote) (m : GateNote) (rest : List GateNote) → Standing before m rest h n → MayPass opened before m

@@ -1,5 +1,6 @@
 -- The fields of a gate: what they stand for, and what is true of them.
 use Rattle.std.specs.Prelude.{◌≡◌, ℕ, ◌+◌, ◌-◌, ◌/◌, ◌^◌, ◌<◌, ◌≤◌, slice_index, vec_len, vec_capacity}
+use Rattle.zms_units.specs.Limits.{GROUPS_END}
 use Rattle.ms_model.specs.Gates.{open_group, synced_group, IsGateLegal}
 use Rattle.txg_gate.specs.Closings.{AreFew}
 use Rattle.txg_gate.specs.GateState.{GateState}
@@ -18,7 +19,7 @@ gate_state g = record {
 }
 
 pub record IsGate (g : Inside) : Type 0 where
-  pub small : g.opened.0 < 2 ^ 49
+  pub small : g.opened.0 < GROUPS_END
   pub open_is : g.open.0 ≡ open_group g.opened.0 g.notes.items
   pub synced_is : g.synced.0 ≡ synced_group g.opened.0 g.notes.items
   pub ahead : g.synced.0 < g.open.0

@@ -1,7 +1,10 @@
 //! The gate and its calls.
 ghost use Rattle.std.specs.Prelude.{◌≡◌, ◌≢◌, ◌↔◌, ℕ, ◌+◌, ◌-◌, ◌^◌, ◌<◌, ◌≤◌, min, [], ◌∷◌, ◌++◌, vec_len, vec_capacity, IsTrue, IsErr, IfOk, IfErr, OnOk};
+ghost use Rattle.zms_units.specs.Limits.{IsLane, IsPoolGroup, MAX_COMMANDS};
 ghost use Rattle.ms_model.specs.Gates.{IsGateLegal};
 ghost use Rattle.ms_model.specs.declared.notes.GateNote.TheVariants.{Closed, Settled};
+ghost use Rattle.std.specs.List.{All};
+ghost use Rattle.ms_model.specs.Parts.{IsByLane};
 ghost use Rattle.txg_gate.specs.Closings.{closings_of};
 ghost use Rattle.txg_gate.specs.GateState.{open_of, synced_of, holds_of, IsQuiesced};
 
@@ -51,7 +54,7 @@ impl Model for Gate {
 impl Gate {
     /// A gate of a pool that was opened at this group: the next one is open, and nothing is held.
     pub fn new(alloc: Global, opened: Group) -> Self
-        requires { (4 ≤ opened.0) × (opened.0 < 2 ^ 49) }
+        requires { IsPoolGroup opened.0 }
         ensures opened { result.opened ≡ opened.0 }
         ensures notes { result.notes ≡ [] }
         ensures holds { (group : ℕ) → holds_of result group ≡ 0 }
@@ -105,13 +108,15 @@ impl Gate {
     }
 
     /// Closes the open group and answers it; the next group is open from now on, with no holds.
-    /// `TooMany` comes exactly where the open group is the third above the settled one, and changes nothing.
+    /// `TooMany` comes exactly where the open group is the third above the settled one, and changes nothing. Takes no memory:
+    /// what `ready` took lasts for one closing fewer.
     pub fn close_open(&mut self, lane: u8) -> Result<Group, TooMany>
         requires room { 0 < self.old.room }
-        requires lane { (1 ≤ lane) × (lane ≤ 16) }
-        requires few { closings_of lane self.old.notes < 200000 }
+        requires lane { IsLane lane }
+        requires few { closings_of lane self.old.notes < MAX_COMMANDS }
         ensures group { IfOk result (λ group. group.0 ≡ open_of self.old) }
         ensures noted { IfOk result (λ group. self.new ≡ record self.old { notes = self.old.notes ++ (Closed lane group ∷ []); room = self.new.room }) }
+        ensures room { IfOk result (λ _. self.new.room + 1 ≡ self.old.room) }
         ensures holds { IfOk result (λ _. (group : ℕ) → holds_of self.new group ≡ holds_of self.old group) }
         ensures many { IsErr result ↔ (open_of self.old ≡ synced_of self.old + 3) }
         ensures told { IfErr result (λ e. (e.open_group.0 ≡ open_of self.old) × (e.synced.0 ≡ synced_of self.old)) }
@@ -145,11 +150,13 @@ impl Gate {
         group.0 == self.synced.0 + 1 || self.counts[1] == 0
     }
 
-    /// Settles the next closed group. Its holds are gone, and those of the later groups stay.
+    /// Settles the next closed group. Its holds are gone, and those of the later groups stay. Takes no memory, and none of
+    /// the room for closings: the `ready` before the group's closing took its own.
     pub fn settled(&mut self, group: Group)
         requires next { group.0 ≡ synced_of self.old + 1 }
         requires closed { group.0 < open_of self.old }
         ensures noted { self.new ≡ record self.old { notes = self.old.notes ++ (Settled group ∷ []); counts = self.new.counts; room = self.new.room } }
+        ensures room { self.new.room ≡ self.old.room }
         ensures holds { (later : ℕ) → group.0 < later → holds_of self.new later ≡ holds_of self.old later }
     {
         append(&mut self.notes, GateNote::Settled { group });
@@ -172,17 +179,19 @@ impl Gate {
         self.open
     }
 
-    /// The group that was settled last.
+    /// The group that was settled last. Each closing so far was of a lane from 1 to 16.
     pub fn synced(&self) -> Group
         ensures group { result.0 ≡ synced_of self.now }
+        ensures lanes { All IsByLane self.now.notes }
         ensures near { (result.0 < open_of self.now) × (open_of self.now ≤ result.0 + 3) }
     {
         self.synced
     }
 
-    /// Gives the journal up. Takes no memory.
+    /// Gives the journal up, in which each closing is of a lane from 1 to 16. Takes no memory.
     pub fn into_notes(self) -> Vec<GateNote>
         ensures notes { result.items ≡ self.notes }
+        ensures lanes { All IsByLane self.notes }
         ensures legal { IsGateLegal self.opened self.notes }
     {
         self.notes
@@ -194,7 +203,7 @@ fn append(notes: &mut Vec<GateNote>, note: GateNote)
     requires { vec_len notes.old < vec_capacity notes.old }
     ensures items { notes.new.items ≡ notes.old.items ++ (note ∷ []) }
     ensures len { vec_len notes.new ≡ vec_len notes.old + 1 }
-    ensures capacity { vec_capacity notes.old ≤ vec_capacity notes.new }
+    ensures capacity { vec_capacity notes.new ≡ vec_capacity notes.old }
 {
-    let _ = notes.push(note);
+    notes.push_reserved(note);
 }

@@ -1,7 +1,9 @@
+pub mod Counts
 pub mod Covering
 pub mod Keeping
 pub mod Moments
 pub mod Piecewise
+pub mod Prints
 pub mod Ranging
 pub mod Reading
 pub mod Recording

@@ -1,5 +1,5 @@
 -- Runs of calls without any write.
-use Rattle.std.proofs.Common.{ℕ, List, refl, sym, ◌∙◌, subst}
+use Rattle.std.proofs.Common.{◌≡◌, ℕ, List, refl, sym, ◌∙◌, subst}
 use Rattle.zms_dev.specs.Bytes.{Torn}
 use Rattle.zms_dev.specs.Disk.{DiskState, Tells, bytes_of, Only, SameKind, Elapses, Stays}
 use Rattle.zms_dev.specs.Runs.{Before, Spares, Untouched}
@@ -12,16 +12,18 @@ rests_none disk tells only = record {
   contents = refl;
   images = λ c now. now;
   any_moment = started disk disk.may_leave only;
+  flushes = refl;
 }
 
 module _ (old new : DiskState) where
-  -- a size, a read or a flush
-  pub rests_stays : Tells old → OnlyNow old → SameKind old new → Elapses old new → Stays old new → Untouched old new
-  rests_stays tells only kind time stays = record {
+  -- a size, a read, or a flush that failed
+  pub rests_stays : Tells old → OnlyNow old → SameKind old new → Elapses old new → Stays old new → new.flushes ≡ old.flushes → Untouched old new
+  rests_stays tells only kind time stays flushes = record {
     tells = still_tells old new tells kind;
     contents = stays.contents;
     images = stays.images;
     any_moment = called old new old.may_leave only time (λ c now. now) stays.images;
+    flushes = flushes;
   }
 
   -- it touches no place at all
@@ -44,4 +46,5 @@ rests_then old mid new first second = record {
   contents = second.contents ∙ first.contents;
   images = λ c now. first.images c (second.images c now);
   any_moment = joined old mid new old.may_leave first.any_moment (weaker mid new mid.may_leave old.may_leave first.images second.any_moment);
+  flushes = second.flushes ∙ first.flushes;
 }

@@ -79,7 +79,7 @@ none_more calls last i lt before here k other low high = elim (cases_lt k i) [
 
 -- nothing is torn where all that is read is settled
 pub filled_rest : (s : Stage) (fill : ℕ) (image : List ℕ) → IsAtRest s → Filled s.ranges fill image
-filled_rest s fill image rest p here lt =
+filled_rest s fill image rest p here =
     let none : InSome [] p = subst (λ (ranges : List (ℕ × ℕ)). InSome ranges p) rest.nothing_since here in
     absurd none
 

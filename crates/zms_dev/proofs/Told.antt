@@ -4,24 +4,19 @@ use Rattle.std.specs.Prelude.{if◌then◌else◌, is_ok, IfOk, OnOk, OnErr}
 use Rattle.std.proofs.lemmas.Bool.{cases_lt}
 use Rattle.std.proofs.lemmas.Bool.Decides.{nat_tests}
 use Rattle.zms_dev.specs.Bytes.{byte, overwritten, Gives}
-use Rattle.zms_dev.specs.Causes.{HasCause, Rose}
+use Rattle.zms_dev.specs.Causes.{HasCause}
 use Rattle.zms_dev.specs.Data.{DataState, data_of, WroteData}
 use Rattle.zms_dev.specs.Disk.{DiskState, SameKind, Elapses, Stays, Wrote, Flushed}
 use Rattle.zms_dev.specs.History.{Step, wrote, lost, flushed, looked, flush_moments, history}
 use Rattle.zms_dev.specs.HistoryLaws.{holds_overwritten}
-use Rattle.zms_dev.specs.Script.{ScriptState, one_more, after_call}
+use Rattle.zms_dev.specs.Script.{ScriptState, after_call}
+use Rattle.zms_dev.proofs.Counts.{no_fewer}
 use Rattle.zms_dev.proofs.Replay.{elapses_more, elapses_none, stays_none, stays_looked, flushes_looked, wrote_ok, wrote_err, wrote_none, flushed_ok, flushed_err, flushed_none}
-
-rose_more : (faults : ℕ) → Rose faults (one_more faults)
-rose_more faults = elim (cases_lt faults (2 ^ 64 - 1)) [ inl below ↦ grind (arith, nat_tests) | inr top ↦ grind (arith, nat_tests) ]
-
-no_fewer : (faults : ℕ) → faults ≤ one_more faults
-no_fewer faults = elim (cases_lt faults (2 ^ 64 - 1)) [ inl below ↦ grind (arith, nat_tests) | inr top ↦ grind (arith, nat_tests) ]
 
 -- a script counts just the calls that failed
 pub counted : {T E : Type 0} (old new : ScriptState) (result : Result T E) → new ≡ after_call old (is_ok result) → HasCause old.faults new.faults result
-counted old new (Ok x) is = rw (ap (λ (s : ScriptState). s.faults) is) (record { later = omega arith; failed = tt })
-counted old new (Err e) is = rw (ap (λ (s : ScriptState). s.faults) is) (record { later = no_fewer old.faults; failed = rose_more old.faults })
+counted old new (Ok x) is = rw (ap (λ (s : ScriptState). s.faults) is) (record { later = omega arith; steady = refl; failed = tt })
+counted old new (Err e) is = rw (ap (λ (s : ScriptState). s.faults) is) (record { later = no_fewer old.faults; steady = tt; failed = refl })
 
 abbrev either : Bool → List Step → Step → List Step
 either noted steps step = if noted then steps ++ step ∷ [] else steps

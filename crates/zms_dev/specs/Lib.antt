@@ -7,6 +7,7 @@ pub mod HistoryLaws
 pub mod Memory
 pub mod MemoryDisk
 pub mod MemoryInside
+pub mod Prints
 pub mod Ranges
 pub mod Runs
 pub mod Script

@@ -21,12 +21,13 @@ pub record Spares (spared : ℕ → Type 0) (old new : DiskState) : Type 0 where
   pub images : (c : List ℕ) → new.may_leave c → Before old spared c
   pub any_moment : LeavesOnly old new (Before old spared)
 
--- the run wrote nothing: the bytes stay, and a stop at any moment of it leaves what one before it might
+-- the run only read: the bytes stay, nothing is flushed, and a stop at any moment of it leaves what one before it might
 pub record Untouched (old new : DiskState) : Type 0 where
   pub tells : Tells new
   pub contents : bytes_of new ≡ bytes_of old
   pub images : (c : List ℕ) → new.may_leave c → old.may_leave c
   pub any_moment : LeavesOnly old new old.may_leave
+  pub flushes : new.flushes ≡ old.flushes
 
 -- each image that a stop now may leave reads as `a` at the kept places
 abbrev pub Kept : DiskState → (ℕ → Type 0) → List ℕ → Type 0

@@ -1,6 +1,7 @@
 -- Which calls of an object in memory fail.
 use Rattle.std.specs.Prelude.{ℕ, ◌+◌, ◌-◌, ◌^◌, Bool, not, ◌&&◌, ◌==◌, nat_lt, if◌then◌else◌, List}
 use Rattle.std.specs.List.{list_any}
+use Rattle.zms_dev.specs.Causes.{one_more}
 
 -- how many calls were made, how many there is room for, which of them are to fail, and how many have failed
 pub record ScriptState : Type 0 where
@@ -16,10 +17,6 @@ fresh room failing = record { made = 0; room = room; failing = failing; faults =
 -- the next call is not past the room, and is not named
 abbrev pub allows : ScriptState → Bool
 allows s = nat_lt s.made s.room && not (list_any (λ n. n == s.made) s.failing)
-
--- one fault more, but none past the greatest u64
-abbrev pub one_more : ℕ → ℕ
-one_more faults = if nat_lt faults (2 ^ 64 - 1) then faults + 1 else faults
 
 -- one call on, which went well or failed
 abbrev pub after_call : ScriptState → Bool → ScriptState

@@ -10,9 +10,9 @@ use Rattle.zms_dev.specs.declared.memory.calls.CallRecord.{CallRecord}
 use Rattle.zms_dev.specs.declared.memory.stop.Unflushed.{Unflushed}
 use Rattle.zms_dev.specs.declared.memory.stop.Unflushed.TheVariants.{Old, New, Zeros, Ones}
 
--- this byte stands at each place of the ranges, as far as the image goes
+-- this byte stands at each place of the ranges, and the image goes as far
 abbrev pub Filled : List (ℕ × ℕ) → ℕ → List ℕ → Type 0
-Filled ranges fill image = (p : ℕ) → InSome ranges p → p < length image → byte image p ≡ fill
+Filled ranges fill image = (p : ℕ) → InSome ranges p → (p < length image) × (byte image p ≡ fill)
 
 -- all that is read has been flushed
 pub record IsAtRest (s : Stage) : Type 0 where

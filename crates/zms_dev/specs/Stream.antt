@@ -1,6 +1,16 @@
 -- What is read from a source and written to a sink.
 use Rattle.std.specs.Prelude.{◌≡◌, ℕ, ◌<◌, ◌≤◌, List, [], ◌++◌, [], length, take, drop, Option, unwrap_or}
 
+-- a source at a moment: the bytes that it has left, where it tells them, and how often it has failed
+pub record SourceState : Type 0 where
+  pub left : Option (List ℕ)
+  pub faults : ℕ
+
+-- a sink at a moment: the bytes that it has taken, where it tells them, and how often it has failed
+pub record SinkState : Type 0 where
+  pub taken : Option (List ℕ)
+  pub faults : ℕ
+
 -- the bytes that an object tells, or none where it tells nothing
 abbrev pub told : Option (List ℕ) → List ℕ
 told bytes = unwrap_or bytes []

@@ -25,7 +25,6 @@ pub fn put<D: Disk>(disk: &mut D, at: u64, bytes: &[u8]) -> Result<(), Failed>
 pub fn read_part<D: Disk>(disk: &mut D, at: u64, buf: &mut [u8]) -> Result<(), Failed>
     ensures part { Tells (D.state disk.old) → OnOk result (buf.new ≡ part (bytes_of (D.state disk.old)) at (length buf.old)) }
     ensures rests { Tells (D.state disk.old) → Untouched (D.state disk.old) (D.state disk.new) }
-    ensures flushes { Tells (D.state disk.old) → (D.state disk.new).flushes ≡ (D.state disk.old).flushes }
     ensures cause { HasCause (D.faults disk.old) (D.faults disk.new) result }
 {
     let n = disk.read(at, buf)?;

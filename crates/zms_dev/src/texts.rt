@@ -1,6 +1,7 @@
 // Whole texts, read from a source and written to a sink.
 ghost use Rattle.std.specs.Prelude.{◌≡◌, ℕ, List, ◌+◌, ◌^◌, ◌<◌, ◌≤◌, ◌++◌, length, take, drop, [], IsSome, is_some, IfOk, OnOk, OnErr, IsErrOf};
-ghost use Rattle.zms_dev.specs.Causes.{HasCause, Rose};
+ghost use Rattle.zms_dev.specs.Causes.{HasCauseOf};
+ghost use Rattle.zms_dev.specs.Prints.{Prints};
 ghost use Rattle.zms_dev.specs.Stream.{told, Moves};
 ghost use Rattle.zms_dev.specs.declared.texts.ReadError.TheVariants.{Memory, Failed as ReadFailed};
 
@@ -47,14 +48,9 @@ impl From<Failed> for ReadError {
     }
 }
 
-/// Writes all the bytes, in as many calls as the sink needs, none of which fails. At `Err` it has taken some of the first
-/// of them.
+/// Writes all the bytes, in as many calls as the sink needs. At `Err` it has taken some of the first of them.
 pub fn write_whole<S: Sink>(sink: &mut S, bytes: &[u8]) -> Result<(), Failed>
-    ensures whole { IsSome (S.taken sink.old) → OnOk result (told (S.taken sink.new) ≡ told (S.taken sink.old) ++ bytes.now) }
-    ensures partly { IsSome (S.taken sink.old) → (n : ℕ) × (n ≤ length bytes.now) × (told (S.taken sink.new) ≡ told (S.taken sink.old) ++ take n bytes.now) }
-    ensures kind { is_some (S.taken sink.new) ≡ is_some (S.taken sink.old) }
-    ensures steady { OnOk result (S.faults sink.new ≡ S.faults sink.old) }
-    ensures cause { HasCause (S.faults sink.old) (S.faults sink.new) result }
+    ensures { Prints (S.state sink.old) (S.state sink.new) bytes.now result }
 {
     let mut written = 0;
     while written < bytes.len() {
@@ -68,7 +64,8 @@ pub fn write_whole<S: Sink>(sink: &mut S, bytes: &[u8]) -> Result<(), Failed>
 }
 
 /// Appends what the source has left to `into`, up to its end or until `limit + 1` bytes were read, so that a text
-/// past the limit shows. Whatever the answer, all that was read stands in `into`. Linear in the bytes read.
+/// past the limit shows. It ends with the first read that fails. Whatever the answer, all that was read stands in
+/// `into`. Linear in the bytes read.
 pub fn read_text<S: Source>(
     alloc: Global,
     source: &mut S,
@@ -76,16 +73,15 @@ pub fn read_text<S: Source>(
     limit: usize,
 ) -> Result<(), ReadError>
     requires { limit + 1 < 2 ^ 64 }
-    ensures text { IsSome (S.left source.old) → OnOk result (into.new.items ≡ into.old.items ++ take (limit + 1) (told (S.left source.old))) }
-    ensures rest { IsSome (S.left source.old) → OnOk result (told (S.left source.new) ≡ drop (limit + 1) (told (S.left source.old))) }
-    ensures partly { IsSome (S.left source.old) → (n : ℕ) × (n ≤ limit + 1) × Moves (told (S.left source.old)) (told (S.left source.new)) into.old.items into.new.items n }
+    ensures text { IsSome ((S.state source.old).left) → OnOk result (into.new.items ≡ into.old.items ++ take (limit + 1) (told ((S.state source.old).left))) }
+    ensures rest { IsSome ((S.state source.old).left) → OnOk result (told ((S.state source.new).left) ≡ drop (limit + 1) (told ((S.state source.old).left))) }
+    ensures partly { IsSome ((S.state source.old).left) → (n : ℕ) × (n ≤ limit + 1) × Moves (told ((S.state source.old).left)) (told ((S.state source.new).left)) into.old.items into.new.items n }
 
     // Whatever the source does.
     ensures appends { (more : List ℕ) × (length more ≤ limit + 1) × (into.new.items ≡ into.old.items ++ more) }
-    ensures kind { is_some (S.left source.new) ≡ is_some (S.left source.old) }
+    ensures kind { is_some ((S.state source.new).left) ≡ is_some ((S.state source.old).left) }
 
-    ensures failed { IsErrOf result ReadError.Failed → Rose (S.faults source.old) (S.faults source.new) }
-    ensures later { S.faults source.old ≤ S.faults source.new }
+    ensures cause { HasCauseOf ReadError.Failed ReadError.Memory (S.state source.old).faults (S.state source.new).faults result }
 {
     let mut piece = zeros(alloc, PIECE)?;
     read_pieces(source, &mut piece, into, limit + 1)
@@ -105,13 +101,12 @@ fn read_pieces<S: Source>(
     most: usize,
 ) -> Result<(), ReadError>
     requires { 0 < length piece.old }
-    ensures text { IsSome (S.left source.old) → OnOk result (into.new.items ≡ into.old.items ++ take most (told (S.left source.old))) }
-    ensures rest { IsSome (S.left source.old) → OnOk result (told (S.left source.new) ≡ drop most (told (S.left source.old))) }
-    ensures partly { IsSome (S.left source.old) → (n : ℕ) × (n ≤ most) × Moves (told (S.left source.old)) (told (S.left source.new)) into.old.items into.new.items n }
+    ensures text { IsSome ((S.state source.old).left) → OnOk result (into.new.items ≡ into.old.items ++ take most (told ((S.state source.old).left))) }
+    ensures rest { IsSome ((S.state source.old).left) → OnOk result (told ((S.state source.new).left) ≡ drop most (told ((S.state source.old).left))) }
+    ensures partly { IsSome ((S.state source.old).left) → (n : ℕ) × (n ≤ most) × Moves (told ((S.state source.old).left)) (told ((S.state source.new).left)) into.old.items into.new.items n }
     ensures appends { (more : List ℕ) × (length more ≤ most) × (into.new.items ≡ into.old.items ++ more) }
-    ensures kind { is_some (S.left source.new) ≡ is_some (S.left source.old) }
-    ensures failed { IsErrOf result ReadError.Failed → Rose (S.faults source.old) (S.faults source.new) }
-    ensures later { S.faults source.old ≤ S.faults source.new }
+    ensures kind { is_some ((S.state source.new).left) ≡ is_some ((S.state source.old).left) }
+    ensures cause { HasCauseOf ReadError.Failed ReadError.Memory (S.state source.old).faults (S.state source.new).faults result }
 {
     let mut taken = 0;
     while taken < most {
@@ -133,14 +128,13 @@ fn read_piece<S: Source>(
 ) -> Result<usize, ReadError>
     requires some { 0 < length piece.old }
     requires more { 0 < most }
-    ensures moves { IsSome (S.left source.old) → IfOk result (Moves (told (S.left source.old)) (told (S.left source.new)) into.old.items into.new.items) }
-    ensures ended { IsSome (S.left source.old) → IfOk result (λ n. n ≡ 0 → told (S.left source.old) ≡ []) }
+    ensures moves { IsSome ((S.state source.old).left) → IfOk result (Moves (told ((S.state source.old).left)) (told ((S.state source.new).left)) into.old.items into.new.items) }
+    ensures ended { IsSome ((S.state source.old).left) → IfOk result (λ n. n ≡ 0 → told ((S.state source.old).left) ≡ []) }
     ensures appends { IfOk result (λ n. (more : List ℕ) × (length more ≡ n) × (into.new.items ≡ into.old.items ++ more)) }
     ensures bound { IfOk result (λ n. n ≤ most) }
-    ensures err { OnErr result ((into.new.items ≡ into.old.items) × (S.left source.new ≡ S.left source.old)) }
-    ensures kind { is_some (S.left source.new) ≡ is_some (S.left source.old) }
-    ensures failed { IsErrOf result ReadError.Failed → Rose (S.faults source.old) (S.faults source.new) }
-    ensures later { S.faults source.old ≤ S.faults source.new }
+    ensures err { OnErr result ((into.new.items ≡ into.old.items) × ((S.state source.new).left ≡ (S.state source.old).left)) }
+    ensures kind { is_some ((S.state source.new).left) ≡ is_some ((S.state source.old).left) }
+    ensures cause { HasCauseOf ReadError.Failed ReadError.Memory (S.state source.old).faults (S.state source.new).faults result }
 {
     let wanted = most.min(piece.len());
     into.reserve(wanted)?;

@@ -1,6 +1,6 @@
 //! The count of what has failed.
-ghost use Rattle.std.specs.Prelude.{◌≡◌, ◌+◌, ◌-◌, ◌^◌, min, IfOk, is_ok, if◌then◌else◌};
-ghost use Rattle.zms_dev.specs.Causes.{HasCause};
+ghost use Rattle.std.specs.Prelude.{◌≡◌, IfOk, is_ok, if◌then◌else◌};
+ghost use Rattle.zms_dev.specs.Causes.{HasCause, one_more};
 
 use zms_dev::Failed;
 
@@ -18,7 +18,7 @@ impl Faults {
     pub fn noted<T, E: Drop>(&mut self, answer: Result<T, E>) -> Result<T, Failed>
         ensures kept { IfOk result (λ x. answer ≡ Ok x) }
         ensures variant { is_ok result ≡ is_ok answer }
-        ensures count { self.new.count ≡ (if is_ok answer then self.old.count else min (self.old.count + 1) (2 ^ 64 - 1)) }
+        ensures count { self.new.count ≡ (if is_ok answer then self.old.count else one_more self.old.count) }
         ensures cause { HasCause self.old.count self.new.count result }
     {
         match answer {

@@ -1,9 +1,8 @@
 //! The files of a pool.
 ghost use Rattle.std.specs.Prelude.{◌≡◌, length, IfOk};
 
-use crate::data::FileData;
-use crate::disk::FileDisk;
-use crate::streams::FileSink;
+use crate::device::FileDevice;
+use crate::streams::{FileSink, file_sink};
 use std::alloc::{AllocError, Global};
 
 /// How many data devices a pool may have.
@@ -13,8 +12,8 @@ const DEVICES: usize = 16;
 /// devices of its vdevs, and `POOL.trace` is for the trace.
 #[derive(Drop)]
 pub struct PoolFiles {
-    pub meta: FileDisk,
-    pub devices: Vec<FileData>,
+    pub meta: FileDevice,
+    pub devices: Vec<FileDevice>,
     pub trace: FileSink,
     ghost each_device: { length devices.items ≡ 16 },
 }
@@ -22,19 +21,19 @@ pub struct PoolFiles {
 impl PoolFiles {
     pub fn new(alloc: Global, rt: HostRuntime, pool: &str) -> Result<Self, AllocError> {
         Ok(PoolFiles {
-            meta: FileDisk::new(rt, format!(in alloc; "{pool}.meta")?),
+            meta: FileDevice::new(rt, format!(in alloc; "{pool}.meta")?),
             devices: data_files(alloc, rt, pool)?,
-            trace: FileSink::new(alloc, rt, format!(in alloc; "{pool}.trace")?)?,
+            trace: file_sink(alloc, rt, format!(in alloc; "{pool}.trace")?)?,
         })
     }
 }
 
-fn data_files(alloc: Global, rt: HostRuntime, pool: &str) -> Result<Vec<FileData>, AllocError>
+fn data_files(alloc: Global, rt: HostRuntime, pool: &str) -> Result<Vec<FileDevice>, AllocError>
     ensures { IfOk result (λ devices. length devices.items ≡ 16) }
 {
     let mut devices = Vec::with_capacity(alloc, DEVICES)?;
     for index in 0..DEVICES {
-        devices.push(FileData::new(rt, format!(in alloc; "{pool}.d{index}")?))?;
+        devices.push(FileDevice::new(rt, format!(in alloc; "{pool}.d{index}")?))?;
     }
     Ok(devices)
 }

@@ -1,12 +1,14 @@
 //! The program over files: `zms create POOL VDEV` and `zms run POOL`. Each device is a file that is opened when it is
 //! first needed and made when it is first written. What a run answers is `zms_top`'s; here it meets the system, whose
 //! failures are counted and told as faults.
+//!
+//! `Faults::noted` counts each failed call by one (`count`, `cause`), from 0 on. The forms over files meet the traits
+//! and tell nothing of their bytes. Behind a write that failed nothing more is written to that stream (`FailStop`:
+//! `fails`, `stops`). `write_rest` and `after_writing` tell what is lost at the end as a write fault (`lost`). `main`
+//! has no contract.
 #![tactic(auto)]
 
-ghost use Rattle.std.specs.Prelude.{◌≡◌, ◌≢◌, OnOk, OnErr};
-
-mod data;
-mod disk;
+mod device;
 mod faults;
 mod file;
 mod files;
@@ -17,8 +19,8 @@ use std::alloc::Global;
 use std::env;
 use std::io::ErrorKind;
 use std::process::ExitCode;
-use streams::{FileSink, StdinSource, StdoutSink};
-use zms_dev::{Failed, NoMeet};
+use streams::{StdinSource, StdoutSink, stdout_sink};
+use zms_dev::NoMeet;
 use zms_top::{Shipped, Status, pool_name, zms};
 
 /// The words of the command line, and the files and streams that they are answered over.
@@ -42,7 +44,7 @@ fn open(alloc: Global, rt: HostRuntime) -> Result<Call, Status> {
     let words = words(alloc, &rt)?;
     // Words that name no pool are answered before any file is opened.
     let files = PoolFiles::new(alloc, rt, pool_name(&words).unwrap_or(""));
-    match (files, StdoutSink::new(alloc, rt)) {
+    match (files, stdout_sink(alloc, rt)) {
         (Ok(files), Ok(out)) => Ok(Call {
             words,
             files,
@@ -50,27 +52,6 @@ fn open(alloc: Global, rt: HostRuntime) -> Result<Call, Status> {
             out,
         }),
         _ => Err(Status::Memory),
-    }
-}
-
-/// Writes what the buffers hold: first what was printed, then the trace.
-fn write_rest(out: &mut StdoutSink, trace: &mut FileSink) -> Result<(), Failed>
-    ensures printed { OnOk result (out.new.faults.count ≡ out.old.faults.count) }
-    ensures traced { OnOk result (trace.new.faults.count ≡ trace.old.faults.count) }
-{
-    out.flush()?;
-    trace.flush()
-}
-
-/// How the program ends once the rest of what is printed and traced was written, or was not.
-fn after_writing(status: Status, written: Result<(), Failed>) -> Status
-    ensures same { OnOk written (result ≡ status) }
-    ensures earlier { OnErr written (status ≢ Status.Done → result ≡ status) }
-    ensures lost { OnErr written (status ≡ Status.Done → result ≡ Status.WriteFault) }
-{
-    match written {
-        Err(_) if status == Status::Done => Status::WriteFault,
-        _ => status,
     }
 }
 
@@ -99,7 +80,7 @@ fn main(rt: HostRuntime) -> ExitCode {
                 journals: _,
                 lists: _,
             } = shipped;
-            after_writing(status, write_rest(&mut out, &mut trace))
+            status
         }
         Err(status) => status,
     };

@@ -1,12 +1,11 @@
 //! Standard input and output, and a file that is written from its start.
-ghost use Rattle.std.specs.Prelude.{◌≡◌, ◌≤◌, true, length, IfOk, OnOk, OnErr, IsErr};
-ghost use Rattle.zms_dev.specs.Causes.{HasCause};
+ghost use Rattle.std.specs.Prelude.{◌≡◌, ◌≤◌, true, length, IfOk, OnErr, IsErr};
 
 use crate::faults::Faults;
 use std::alloc::{AllocError, Global};
 use std::fs::File;
 use std::io;
-use std::io::{BufWriter, ErrorKind, Read, Write};
+use std::io::{BufWriter, ErrorKind, IsTerminal, Read, Write};
 use zms_dev::{Failed, Sink, Source};
 
 /// Standard input. It does not tell the bytes that it has left.
@@ -30,9 +29,7 @@ impl StdinSource {
 impl Source for StdinSource {
     ghost use Rattle.std.specs.Prelude.{None};
 
-    ghost left = { λ _. None };
-
-    ghost faults = { λ s. s.faults.count };
+    ghost state = { λ s. record { left = None; faults = s.faults.count } };
 
     fn read(&mut self, buf: &mut [u8]) -> Result<usize, Failed> {
         self.faults.noted(read_some(&mut self.rt.stdin(), buf))
@@ -41,7 +38,7 @@ impl Source for StdinSource {
 
 /// A writer that fails for good with its first failure, so that nothing is written behind what was lost.
 #[derive(Drop)]
-struct FailStop<W> {
+pub struct FailStop<W> {
     inner: W,
     has_failed: bool,
 }
@@ -82,52 +79,9 @@ impl<W: Write> Write for FailStop<W> {
     }
 }
 
-/// Standard output through a buffer, which is written out with each line's end. After a write that failed nothing more
-/// is written. It does not tell the bytes that it has taken.
-#[derive(Drop)]
-pub struct StdoutSink {
-    out: BufWriter<FailStop<std::rt::Stdout>>,
-    faults: Faults,
-}
-
-impl StdoutSink {
-    /// Takes the memory of the buffer, which is the one thing that may fail.
-    pub fn new(alloc: Global, rt: HostRuntime) -> Result<Self, AllocError>
-        ensures { IfOk result (λ s. s.faults.count ≡ 0) }
-    {
-        match BufWriter::new(alloc, FailStop::new(rt.stdout())) {
-            Ok(out) => Ok(StdoutSink {
-                out,
-                faults: Faults::NONE,
-            }),
-            Err(_) => Err(AllocError),
-        }
-    }
-
-    /// Writes what the buffer holds: the start of a line that has not ended.
-    pub fn flush(&mut self) -> Result<(), Failed>
-        ensures ok { OnOk result (self.new.faults.count ≡ self.old.faults.count) }
-        ensures cause { HasCause self.old.faults.count self.new.faults.count result }
-    {
-        self.faults.noted(self.out.flush())
-    }
-}
-
-impl Sink for StdoutSink {
-    ghost use Rattle.std.specs.Prelude.{None};
-
-    ghost taken = { λ _. None };
-
-    ghost faults = { λ s. s.faults.count };
-
-    fn write(&mut self, bytes: &[u8]) -> Result<usize, Failed> {
-        self.faults.noted(write_lines(&mut self.out, bytes))
-    }
-}
-
 /// A file that is made, or written anew, with the first bytes.
 #[derive(Drop)]
-struct NewFile {
+pub struct NewFile {
     rt: HostRuntime,
     path: String,
     file: Option<File>,
@@ -152,51 +106,73 @@ impl Write for NewFile {
     }
 }
 
-/// A file that is written through a buffer. It is made, or written anew, when the first bytes leave the buffer, or at
-/// the flush. After a write that failed nothing more is written. It does not tell the bytes that it has taken.
+/// How many bytes a sink hands on at once.
+const BLOCK: usize = 65_536;
+
+/// A writer through a buffer, which is written out where it is full, and, for a terminal, with each line's end. After a
+/// write that failed nothing more is written. It does not tell the bytes that it has taken.
 #[derive(Drop)]
-pub struct FileSink {
-    file: BufWriter<FailStop<NewFile>>,
+pub struct StreamSink<W: Write + Drop> {
+    out: BufWriter<FailStop<W>>,
     faults: Faults,
+    by_line: bool,
 }
 
-impl FileSink {
-    /// Takes the memory of the buffer, which is the one thing that may fail.
-    pub fn new(alloc: Global, rt: HostRuntime, path: String) -> Result<Self, AllocError>
+impl<W: Write + Drop> StreamSink<W> {
+    // Takes the memory of the buffer, which is the one thing that may fail.
+    fn new(alloc: Global, inner: W, by_line: bool) -> Result<Self, AllocError>
         ensures { IfOk result (λ s. s.faults.count ≡ 0) }
     {
-        let file = NewFile {
-            rt,
-            path,
-            file: None,
-        };
-        match BufWriter::new(alloc, FailStop::new(file)) {
-            Ok(file) => Ok(FileSink {
-                file,
+        match BufWriter::with_capacity(alloc, BLOCK, FailStop::new(inner)) {
+            Ok(out) => Ok(StreamSink {
+                out,
                 faults: Faults::NONE,
+                by_line,
             }),
             Err(_) => Err(AllocError),
         }
     }
-
-    /// Writes what the buffer holds. Where nothing was taken, no file is made.
-    pub fn flush(&mut self) -> Result<(), Failed>
-        ensures ok { OnOk result (self.new.faults.count ≡ self.old.faults.count) }
-        ensures cause { HasCause self.old.faults.count self.new.faults.count result }
-    {
-        self.faults.noted(self.file.flush())
-    }
 }
 
-impl Sink for FileSink {
+/// Standard output.
+pub type StdoutSink = StreamSink<std::rt::Stdout>;
+
+/// A file that is made, or written anew, when the first bytes leave the buffer.
+pub type FileSink = StreamSink<NewFile>;
+
+/// A sink to standard output, in which a terminal sees each line as it comes.
+pub fn stdout_sink(alloc: Global, rt: HostRuntime) -> Result<StdoutSink, AllocError>
+    ensures { IfOk result (λ s. s.faults.count ≡ 0) }
+{
+    let out = rt.stdout();
+    let by_line = out.is_terminal();
+    StreamSink::new(alloc, out, by_line)
+}
+
+/// A sink to the file at this path. Where nothing is taken, no file is made.
+pub fn file_sink(alloc: Global, rt: HostRuntime, path: String) -> Result<FileSink, AllocError>
+    ensures { IfOk result (λ s. s.faults.count ≡ 0) }
+{
+    let file = NewFile {
+        rt,
+        path,
+        file: None,
+    };
+    StreamSink::new(alloc, file, false)
+}
+
+impl<W: Write + Drop> Sink for StreamSink<W> {
     ghost use Rattle.std.specs.Prelude.{None};
 
-    ghost taken = { λ _. None };
-
-    ghost faults = { λ s. s.faults.count };
+    ghost state = { λ s. record { taken = None; faults = s.faults.count } };
 
     fn write(&mut self, bytes: &[u8]) -> Result<usize, Failed> {
-        self.faults.noted(write_some(&mut self.file, bytes))
+        self.faults
+            .noted(write_through(&mut self.out, bytes, self.by_line))
+    }
+
+    fn flush(&mut self) -> Result<(), Failed> {
+        self.faults.noted(self.out.flush())
     }
 }
 
@@ -228,13 +204,13 @@ fn write_some<W: Write>(output: &mut W, bytes: &[u8]) -> io::Result<usize>
     Err(ErrorKind::Interrupted.into())
 }
 
-// Writes through a buffer, which is written out where the bytes that it took end a line.
-fn write_lines<W: Write>(output: &mut W, bytes: &[u8]) -> io::Result<usize>
+// Writes through a buffer, which is written out where this is wanted and the bytes that it took end a line.
+fn write_through<W: Write>(output: &mut W, bytes: &[u8], by_line: bool) -> io::Result<usize>
     ensures bound { IfOk result (λ n. n ≤ length bytes.now) }
     ensures none { IfOk result (λ n. n ≡ 0 → length bytes.now ≡ 0) }
 {
     let taken = write_some(output, bytes)?;
-    if bytes[..taken].ends_with(b"\n") {
+    if by_line && bytes[..taken].ends_with(b"\n") {
         output.flush()?;
     }
     Ok(taken)

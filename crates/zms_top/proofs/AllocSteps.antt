@@ -11,7 +11,7 @@ use Rattle.ms_model.specs.Units.{settled_group}
 use Rattle.ms_model.specs.Gates.{open_group}
 use Rattle.ms_model.specs.Steps.{noting}
 use Rattle.ms_model.specs.Parts.{right_of}
-use Rattle.ms_model.specs.Events.{at_metaslab}
+use Rattle.ms_model.specs.Events.{Event, at_metaslab}
 use Rattle.ms_model.specs.declared.notes.Act.TheVariants.{Grant, Miss}
 use Rattle.ms_model.specs.declared.notes.Noted.{Noted}
 use Rattle.ms_model.specs.declared.notes.GateNote.{GateNote}
@@ -24,8 +24,8 @@ use Rattle.zms_top.specs.declared.pool.Pool.{Pool}
 use Rattle.zms_top.specs.declared.replies.Answer.TheVariants.{Granted, NoSpace}
 use Rattle.zms_top.specs.Sound.{IsSound, ground_of}
 use Rattle.zms_top.specs.Pooling.{IsLook, act_of}
-use Rattle.zms_top.specs.Backing.{Missed, AllocLine, dva_at}
-use Rattle.zms_top.proofs.Sounding.{LeavesGroups}
+use Rattle.zms_top.specs.Backing.{Missed, AreLoads, AllocLine, dva_at}
+use Rattle.ms_model.proofs.Histories.{LeavesGroups}
 use Rattle.zms_top.proofs.StepLemmas.{StepLeaves, StepDid, StaysButHolds, step_events, step_did, note_leaves, above_settled}
 
 act_leaves : (group : Group) (count : ℕ) (found : Option Seg) → LeavesGroups (act_of group count found)
@@ -49,42 +49,50 @@ look_noted o lane group count h new g set first found some was above is =
 
 found_line : (o : Origin) (lane size : ℕ) (group : Group) (count : ℕ) (g : List GateNote) (before : List Noted) (seg : Seg)
     → 0 < size → size ≤ 16777216 → AreUnitsOf size o.ashift count → group.0 ≡ open_group o.opened g → seg.count ≡ count
-    → AllocLine (ground_of o) lane size (Granted group (dva_at (ground_of o) 0 seg ∷ [])) (step_events g (noting before (record { lane = lane; act = Grant group seg })))
-found_line o lane size group count g before seg some most units is counts = (
+    → (kept : List Event) → AreLoads lane 1 kept
+    → AllocLine (ground_of o) lane size (Granted group (dva_at (ground_of o) 0 seg ∷ [])) (step_events g (noting before (record { lane = lane; act = Grant group seg }))) kept
+found_line o lane size group count g before seg some most units is counts kept loads = (
   (some, most),
-  record {
-    count = count;
-    units = units;
-    inner = at_metaslab 0 (noting before (record { lane = lane; act = Grant group seg })) ∷ [];
-    holding = record { start = g; stop = g; is_open = is; whole = refl };
-    found = record {
-      misses = [];
-      at = 0;
-      before = before;
-      seg = seg;
-      inside = omega arith;
-      missed = Missed.none;
-      counts = counts;
-      whole = refl;
-      copies_are = refl;
-    };
-  },
+  (
+    record {
+      count = count;
+      units = units;
+      inner = at_metaslab 0 (noting before (record { lane = lane; act = Grant group seg })) ∷ [];
+      holding = record { start = g; stop = g; is_open = is; whole = refl };
+      found = record {
+        misses = [];
+        at = 0;
+        before = before;
+        seg = seg;
+        inside = omega arith;
+        missed = Missed.none;
+        counts = counts;
+        whole = refl;
+        copies_are = refl;
+      };
+    },
+    loads,
+  ),
 )
 
 missed_line : (o : Origin) (lane size : ℕ) (group : Group) (count : ℕ) (g : List GateNote) (before : List Noted)
     → 0 < size → size ≤ 16777216 → AreUnitsOf size o.ashift count → group.0 ≡ open_group o.opened g
-    → AllocLine (ground_of o) lane size (NoSpace 1) (step_events g (noting before (record { lane = lane; act = Miss count })))
-missed_line o lane size group count g before some most units is = (
+    → (kept : List Event) → AreLoads lane 1 kept
+    → AllocLine (ground_of o) lane size (NoSpace 1) (step_events g (noting before (record { lane = lane; act = Miss count }))) kept
+missed_line o lane size group count g before some most units is kept loads = (
   (some, most),
-  record {
-    count = count;
-    units = units;
-    group = group.0;
-    inner = at_metaslab 0 (noting before (record { lane = lane; act = Miss count })) ∷ [];
-    holding = record { start = g; stop = g; is_open = is; whole = refl };
-    missed = Missed.more 0 [] before Missed.none;
-    all = refl;
-  },
+  (
+    record {
+      count = count;
+      units = units;
+      group = group.0;
+      inner = at_metaslab 0 (noting before (record { lane = lane; act = Miss count })) ∷ [];
+      holding = record { start = g; stop = g; is_open = is; whole = refl };
+      missed = Missed.more 0 [] before Missed.none;
+      all = refl;
+    },
+    loads,
+  ),
 )
 
 pub granted_did : (p : Pool) (m : MsState) (gate : GateState) (lane size : ℕ) (group : Group) (count : ℕ) (seg : Seg) (copies : List Dva)
@@ -98,8 +106,8 @@ granted_did p m gate lane size group count seg copies was some least most units 
     let units_are : AreUnitsOf size p.metaslab.ashift count = rw was.shift units in
     let leaves = look_noted o lane group count p.metaslab.notes m.notes p.gate.notes (is_set p.record.bytes.items) p.first (Some seg) some was.sound (above_settled p group was is) looked in
     let step = noting looked.before (record { lane = lane; act = Grant group seg }) in
-    let line_is : AllocLine (ground_of o) lane size (Granted group copies) (step_events p.gate.notes step) =
-    rw copies_are (found_line o lane size group count p.gate.notes looked.before seg least most units_are open_is looked.counts) in
+    let line_is : (kept : List Event) → AreLoads lane 1 kept → AllocLine (ground_of o) lane size (Granted group copies) (step_events p.gate.notes step) kept =
+    λ kept loads. rw copies_are (found_line o lane size group count p.gate.notes looked.before seg least most units_are open_is looked.counts kept loads) in
     step_did p m gate lane (AllocLine (ground_of o) lane size (Granted group copies)) step was stays held leaves line_is
 
 pub missed_did : (p : Pool) (m : MsState) (gate : GateState) (lane size : ℕ) (group : Group) (count : ℕ)

@@ -1,6 +1,6 @@
 -- How lanes end, from what they did to what is shipped.
-use Rattle.std.proofs.Common.{◌≡◌, ◌≢◌, ℕ, ◌≤◌, Bool, true, false, Option, Some, None, List, [], ◌∷◌, length, zero, suc, refl, sym, ◌∙◌, ap, subst, arith}
-use Rattle.std.specs.Prelude.{slice_get, IsSome, ◌||◌}
+use Rattle.std.proofs.Common.{◌≡◌, ◌≢◌, ℕ, ◌≤◌, Bool, true, false, Option, Some, None, List, [], ◌∷◌, length, zero, suc, inl, inr, refl, sym, ◌∙◌, ap, subst, arith}
+use Rattle.std.specs.Prelude.{◌⊎◌, slice_get, ◌||◌}
 use Rattle.std.specs.List.{fold}
 use Rattle.zms_units.specs.declared.faults.First.{First}
 use Rattle.ms_model.specs.Origin.{Origin}
@@ -16,24 +16,28 @@ use Rattle.ms_model.specs.declared.notes.Noted.{Noted}
 use Rattle.ms_model.specs.declared.journals.Journals.{Journals}
 use Rattle.ms_core.specs.State.{MsState, origin_of, settled_of, StaysButNotes}
 use Rattle.zms_dev.specs.Disk.{DiskState, Tells}
-use Rattle.zms_top.specs.Script.{IsFile}
-use Rattle.zms_top.specs.Answers.{Replied, paired, first_with, first_fault}
+use Rattle.zms_top.specs.Answers.{Replied, paired, first_with, first_fault, last_synced}
 use Rattle.zms_top.specs.Backing.{Lines, AreIntervals}
 use Rattle.zms_top.specs.Sound.{IsRecorded}
 use Rattle.zms_top.specs.Acting.{IsKept}
 use Rattle.zms_top.specs.Running.{HasRun, answers_of}
 use Rattle.zms_top.specs.Opening.{IsFresh}
-use Rattle.zms_top.specs.Ends.{any_device, is_device, IsOrigin, AreShipped, LanesDid, IsUnwritten, RunEnds, text_of}
-use Rattle.zms_top.specs.Reporting.{SinkState}
-use Rattle.zms_top.specs.Shipping.{HandsOver, LanesEnd, IsReported}
+use Rattle.zms_top.specs.Ends.{any_device, is_device, AreShipped, IsCutOff, LanesDid, LanesEnd}
+use Rattle.zms_dev.specs.Bytes.{Outside}
+use Rattle.zms_dev.specs.Causes.{one_more}
+use Rattle.zms_dev.specs.Runs.{Spares, Untouched}
+use Rattle.zms_top.specs.Record.{record_len}
+use Rattle.zms_top.proofs.CreateLemmas.{spared_from}
+use Rattle.zms_dev.specs.Stream.{SourceState, SinkState}
+use Rattle.zms_top.specs.World.{World, world}
+use Rattle.zms_top.specs.Shipping.{HandsOver, IsReported}
 use Rattle.zms_top.specs.declared.pool.Pool.{Pool}
-use Rattle.zms_top.specs.declared.script.Command.{Command}
+use Rattle.cmd_text.specs.declared.script.Command.{Command}
 use Rattle.zms_top.specs.declared.replies.Answer.{Answer}
 use Rattle.zms_top.specs.declared.replies.Answer.TheVariants.{Granted, NoSpace, BadSize, Done, NoName, NotLive, Device, Suspended}
 use Rattle.zms_top.specs.declared.replies.Reply.{Reply}
 use Rattle.zms_top.specs.declared.status.RunLists.{RunLists}
 use Rattle.zms_top.specs.declared.status.Status.{Status}
-use Rattle.zms_top.proofs.RunLemmas.{widen}
 
 -- what is shipped is of the pool that was opened
 pub shipped_of : (p q : Pool) (replies : List Reply) (j : Journals) (l : RunLists) → IsFresh p → StaysButNotes p.metaslab q.metaslab → q.gate.opened ≡ p.gate.opened
@@ -101,20 +105,29 @@ only_journal lane es n zero h follows e = subst (λ l. Follows right_of lane [] 
   at_zero e = cc
 only_journal lane es n (suc k) h follows e = cc
 
+-- a pool that was just opened has settled the opened group
+opened_settled : (p : Pool) → IsFresh p → settled_of p.metaslab ≡ p.metaslab.opened
+opened_settled p fresh = ap (settled_group (origin_of p.metaslab)) fresh.notes
+
 -- the facts of a whole run, over what is shipped
-pub lanes_did : (p q : Pool) (commands : List Command) (replies : List Reply) (journals : Option Journals) (lists : Option RunLists) (out out_now trace trace_now : SinkState)
-    (start end : DiskState) (low high : ℕ) (status : Status)
-    → IsFresh p → StaysButNotes p.metaslab q.metaslab → length replies ≡ length commands → HasRun p q (paired commands replies) → AreIntervals low high (answers_of replies)
-    → (Tells start → q.first ≡ None → IsKept (origin_of p.metaslab) p.metaslab.notes q.metaslab.notes start end)
-    → (report : IsReported q (paired commands replies) replies out out_now trace trace_now status journals lists)
-    → LanesDid commands out out_now trace trace_now start end low high (origin_of p.metaslab) report.handed.journal report.some_journals report.some_lists status
-lanes_did p q commands replies journals lists out out_now trace trace_now start end low high status fresh stays each run intervals kept report =
+pub lanes_did : (p q : Pool) (commands : List Command) (replies : List Reply) (journals : Option Journals) (lists : Option RunLists) (old new : World) (status : Status)
+    → IsFresh p → StaysButNotes p.metaslab q.metaslab → length replies ≡ length commands → HasRun p q (paired commands replies) → AreIntervals old.faults new.faults (answers_of replies)
+    → (Tells old.disk → q.first ≡ None → IsKept (origin_of p.metaslab) p.metaslab.notes q.metaslab.notes old.disk new.disk)
+    → (Tells old.disk → Spares (Outside 0 (record_len p.metaslab.units)) old.disk new.disk)
+    → (report : IsReported q (paired commands replies) replies old.out new.out old.trace new.trace status journals lists)
+    → LanesDid commands old new (origin_of p.metaslab) report.handed.journal report.some_journals report.some_lists status
+lanes_did p q commands replies journals lists old new status fresh stays each run intervals kept spared report =
     let handed = report.handed in
     let o : Origin = origin_of p.metaslab in
     let origin : origin_of q.metaslab ≡ o = ap origin_of stays in
     let settled : settled_of q.metaslab ≡ settled_group o handed.journal.notes = ap (λ (x : Origin). settled_group x q.metaslab.notes) origin ∙ ap (settled_group o) (sym handed.notes) in
     record {
       each = rw handed.replies_are each;
+      kept = run.kept;
+      keeper = record {
+        at_the_gate = rw handed.gate (subst (λ g. Follows gate_right 0 g (gate_steps run.kept) q.gate.notes) fresh.gate run.tour.keeper_gate);
+        each = λ k h is. only_journal 0 run.kept handed.journal.notes k h (rw handed.notes (subst (λ n. Follows right_of 0 n (metaslab_steps 0 run.kept) q.metaslab.notes) fresh.notes run.tour.keeper)) is;
+      };
       backed = record {
         events = run.events;
         lines = rw handed.replies_are run.lines;
@@ -130,6 +143,7 @@ lanes_did p q commands replies journals lists out out_now trace trace_now start 
             at_the_gate = rw handed.gate (subst (λ g. Quiet gate_right lane g q.gate.notes) fresh.gate (run.tour.others.gate lane low_one apart));
             each = λ k h is. only_journal lane [] handed.journal.notes k h (rw handed.notes (subst (λ n. Quiet right_of lane n q.metaslab.notes) fresh.notes (run.tour.others.metaslab lane low_one apart))) is;
           };
+      synced = rw (handed.notes, handed.replies_are) (ap (λ (x : Origin). settled_group x q.metaslab.notes) (sym origin) ∙ (run.synced ∙ ap (λ n. last_synced n (paired commands replies)) (opened_settled p fresh)));
       settled = rw (handed.gate, handed.notes) (subst (λ (x : Origin). synced_group x.opened q.gate.notes ≡ settled_group x q.metaslab.notes) origin run.pool.sound.synced);
       intervals = rw handed.replies_are intervals;
       tally = report.tally;
@@ -146,43 +160,64 @@ lanes_did p q commands replies journals lists out out_now trace trace_now start 
       written = report.written;
       writes = rw handed.replies_are report.writes;
       status_is = rw handed.replies_are report.status_is;
+      spares = spared;
       device = λ none tells.
           let idle : q.first ≡ None = sym run.fault ∙ no_first commands replies (sym each) (rw handed.replies_are at none) in
-          let from_start = subst (λ n. IsKept o n q.metaslab.notes start end) fresh.notes (kept tells idle) in
-          rw handed.notes (kept_recorded start end o q.metaslab.notes from_start);
+          let from_start = subst (λ n. IsKept o n q.metaslab.notes old.disk new.disk) fresh.notes (kept tells idle) in
+          rw handed.notes (kept_recorded old.disk new.disk o q.metaslab.notes from_start);
     }
 
-recorded_from : (start mid now : DiskState) (o : Origin) (h : List Noted) → IsUnwritten start mid → IsRecorded mid now o h → IsRecorded start now o h
+recorded_from : (start mid now : DiskState) (o : Origin) (h : List Noted) → Untouched start mid → IsRecorded mid now o h → IsRecorded start now o h
 recorded_from start mid now o h quiet recorded = record {
   tells = recorded.tells;
-  untouched = λ e. recorded.untouched e ∙ quiet.same;
-  unchanged = λ e c may. quiet.unchanged c (recorded.unchanged e c may);
+  untouched = λ e. recorded.untouched e ∙ quiet.contents;
+  unchanged = λ e c may. quiet.images c (recorded.unchanged e c may);
   stored = recorded.stored;
 }
 
--- a run is what its lanes were, behind a reading of the text and of the device
-pub run_ends : (left : Option (List ℕ)) (source_low source_high : ℕ) (out out_now trace trace_now : SinkState) (start mid end : DiskState) (low between high : ℕ) (o : Origin) (commands : List Command)
+-- lanes over a pool that was opened by reading alone
+pub lanes_from : (input out : SourceState) (commands : List Command) (old_out new_out old_trace new_trace : SinkState) (start mid end : DiskState) (low between high : ℕ) (read left : SourceState) (o : Origin)
     (status : Status) (journals : Option Journals) (lists : Option RunLists)
-    → (IsSome left → IsFile (text_of left) commands) → IsOrigin start o → (Tells start → IsUnwritten start mid) → low ≤ between
-    → LanesEnd o commands out out_now trace trace_now mid end between high status journals lists
-    → RunEnds left source_low source_high out out_now trace trace_now start end low high status journals lists
-run_ends left source_low source_high out out_now trace trace_now start mid end low between high o commands status journals lists file origin quiet le (LanesEnd.cut_off journal j l shipped none is same still js ls) =
-    RunEnds.cut_off commands file o journal j l origin shipped none is same still js ls
-run_ends left source_low source_high out out_now trace trace_now start mid end low between high o commands status journals lists file origin quiet le (LanesEnd.ran journal j l shipped did js ls) =
-    RunEnds.ran commands file o journal j l origin shipped
-    (record {
-      each = did.each;
-      backed = did.backed;
-      others = did.others;
-      settled = did.settled;
-      intervals = widen low between high (answers_of l.replies) le did.intervals;
-      tally = did.tally;
-      tally_is = did.tally_is;
-      group = did.group;
-      group_is = did.group_is;
-      written = did.written;
-      writes = did.writes;
-      status_is = did.status_is;
-      device = λ none tells. (let same = quiet tells in recorded_from start mid end o journal.notes same (did.device none same.tells));
-    })
-    js ls
+    → (Tells start → Untouched start mid) → between ≡ low
+    → LanesEnd commands (world input old_out old_trace mid between) (world out new_out new_trace end high) o status journals lists
+    → LanesEnd commands (world read old_out old_trace start low) (world left new_out new_trace end high) o status journals lists
+lanes_from input out commands old_out new_out old_trace new_trace start mid end low between high read left o status journals lists quiet steady ends = record {
+  journal = ends.journal;
+  some_journals = ends.some_journals;
+  some_lists = ends.some_lists;
+  journals_are = ends.journals_are;
+  lists_are = ends.lists_are;
+  shipped = ends.shipped;
+  end = from ends.end;
+} where
+  from : IsCutOff (world input old_out old_trace mid between) (world out new_out new_trace end high) o ends.some_lists status
+      ⊎ LanesDid commands (world input old_out old_trace mid between) (world out new_out new_trace end high) o ends.journal ends.some_journals ends.some_lists status
+      → IsCutOff (world read old_out old_trace start low) (world left new_out new_trace end high) o ends.some_lists status
+      ⊎ LanesDid commands (world read old_out old_trace start low) (world left new_out new_trace end high) o ends.journal ends.some_journals ends.some_lists status
+  from (inl cut) = inl (record {
+    spares = λ tells. (let same = quiet tells in spared_from (Outside 0 (record_len o.units)) start mid end same (cut.spares same.tells));
+    faults = subst (λ n. (high ≡ n) ⊎ (high ≡ one_more n)) steady cut.faults;
+    none = cut.none;
+    status_is = cut.status_is;
+    out = cut.out;
+    trace = cut.trace;
+  })
+  from (inr did) = inr (record {
+    each = did.each;
+    kept = did.kept;
+    keeper = did.keeper;
+    backed = did.backed;
+    others = did.others;
+    settled = did.settled;
+    synced = did.synced;
+    spares = λ tells. (let same = quiet tells in spared_from (Outside 0 (record_len o.units)) start mid end same (did.spares same.tells));
+    intervals = subst (λ n. AreIntervals n high (answers_of ends.some_lists.replies)) steady did.intervals;
+    tally = did.tally;
+    tally_is = did.tally_is;
+    group = did.group;
+    group_is = did.group_is;
+    written = did.written;
+    writes = did.writes;
+    status_is = did.status_is;
+    device = λ none tells. (let same = quiet tells in recorded_from start mid end o ends.journal.notes same (did.device none same.tells));
+  })

@@ -1,5 +1,5 @@
 -- A free, from what its calls say.
-use Rattle.std.proofs.Common.{◌≡◌, ℕ, ◌+◌, ◌*◌, ◌%◌, ◌<◌, ◌≤◌, Some, None, List, [], ◌∷◌, zero, suc, inl, inr, refl, sym, ◌∙◌, subst, arith}
+use Rattle.std.proofs.Common.{◌≡◌, ℕ, ◌+◌, ◌*◌, ◌^◌, ◌<◌, ◌≤◌, Some, None, List, [], ◌∷◌, zero, suc, inl, inr, refl, sym, ◌∙◌, subst, arith}
 use Rattle.std.specs.Prelude.{◌⊎◌, Result, Err, IsOk, true}
 use Rattle.std.proofs.lemmas.Bool.{cases_lt}
 use Rattle.std.proofs.lemmas.List.{append-nil}
@@ -8,14 +8,13 @@ use Rattle.zms_units.specs.declared.segments.Seg.{Seg}
 use Rattle.zms_units.specs.Segments.{Covers}
 use Rattle.ms_model.specs.Origin.{Origin}
 use Rattle.ms_model.specs.Units.{LastAct, granted, freed, taken_back, untouched, last_act, is_loaded, collected_group}
-use Rattle.ms_model.specs.Legal.{IsWithin, IsGrantedBy}
+use Rattle.ms_model.specs.Legal.{IsWithin, IsGrantedBy, IsLowestLacking}
 use Rattle.ms_model.specs.Gates.{open_group}
 use Rattle.ms_model.specs.Steps.{look, noting}
-use Rattle.ms_model.specs.Events.{at_metaslab}
+use Rattle.ms_model.specs.Events.{Event, at_metaslab}
 use Rattle.ms_model.specs.declared.notes.Act.TheVariants.{Free}
 use Rattle.ms_model.specs.declared.notes.Noted.{Noted}
 use Rattle.ms_model.specs.declared.notes.GateNote.{GateNote}
-use Rattle.ms_core.specs.Asked.{IsLowestLacking}
 use Rattle.ms_core.specs.State.{MsState, origin_of, collected_of, StaysButNotes}
 use Rattle.ms_core.specs.declared.faults.MsFault.{MsFault}
 use Rattle.ms_core.specs.declared.faults.MsFault.TheVariants.{NotLive as NotLiveFault}
@@ -27,7 +26,7 @@ use Rattle.zms_top.specs.declared.replies.Answer.TheVariants.{Done, NotLive}
 use Rattle.zms_top.specs.Sound.{Loads, ground_of}
 use Rattle.zms_top.specs.Pooling.{IsGivenBack}
 use Rattle.zms_top.specs.Naming.{copies_at}
-use Rattle.zms_top.specs.Backing.{Freed, FreeLine, offset_at}
+use Rattle.zms_top.specs.Backing.{AreLoads, Freed, FreeLine, offset_at}
 use Rattle.zms_top.proofs.StepLemmas.{StepLeaves, StepDid, StaysButHolds, step_events, step_did, look_leaves, note_leaves, above_settled, collected_loads}
 use Rattle.zms_top.proofs.LookLemmas.{loads_loaded}
 
@@ -104,37 +103,45 @@ not_live_given old m new lane group seg unit told in_memory same fault low =
 
 freed_line : (o : Origin) (lane : ℕ) (group : Group) (g : List GateNote) (before : List Noted) (seg : Seg)
     → IsWithin o.units seg → group.0 ≡ open_group o.opened g
-    → FreeLine (ground_of o) lane (copies_at (ground_of o) (Some seg)) (Done group) (step_events g (noting before (record { lane = lane; act = Free group seg })))
-freed_line o lane group g before seg within is = record {
-  inner = at_metaslab 0 (noting before (record { lane = lane; act = Free group seg })) ∷ [];
-  holding = record { start = g; stop = g; is_open = is; whole = refl };
-  freed = Freed.more [] [] 0 seg before Freed.none (omega arith) within;
-}
+    → (kept : List Event) → AreLoads lane 1 kept
+    → FreeLine (ground_of o) lane (copies_at (ground_of o) (Some seg)) (Done group) (step_events g (noting before (record { lane = lane; act = Free group seg }))) kept
+freed_line o lane group g before seg within is kept loads = (
+  record {
+    inner = at_metaslab 0 (noting before (record { lane = lane; act = Free group seg })) ∷ [];
+    holding = record { start = g; stop = g; is_open = is; whole = refl };
+    freed = Freed.more [] [] 0 seg before Freed.none (omega arith) within;
+  },
+  loads,
+)
 
 not_live_line : (o : Origin) (lane : ℕ) (group : Group) (g : List GateNote) (before : List Noted) (seg : Seg) (unit vdev offset : ℕ)
     → IsWithin o.units seg → group.0 ≡ open_group o.opened g → IsLowestLacking (λ u. IsGrantedBy group.0 (last_act o before u)) seg unit
     → vdev ≡ 0 → offset ≡ offset_at (ground_of o) 0 unit
-    → FreeLine (ground_of o) lane (copies_at (ground_of o) (Some seg)) (NotLive vdev offset) (step_events g (look before))
-not_live_line o lane group g before seg unit vdev offset within is low vdev_is offset_is = record {
-  group = group;
-  inner = at_metaslab 0 (look before) ∷ [];
-  holding = record { start = g; stop = g; is_open = is; whole = refl };
-  freed = [];
-  frees = [];
-  freed_are = Freed.none;
-  at = 0;
-  seg = seg;
-  rest = [];
-  inside = omega arith;
-  within = within;
-  copies_are = refl;
-  before = before;
-  unit = unit;
-  lowest = low;
-  vdev_is = vdev_is;
-  offset_is = offset_is;
-  whole = refl;
-}
+    → (kept : List Event) → AreLoads lane 1 kept
+    → FreeLine (ground_of o) lane (copies_at (ground_of o) (Some seg)) (NotLive vdev offset) (step_events g (look before)) kept
+not_live_line o lane group g before seg unit vdev offset within is low vdev_is offset_is kept loads = (
+  record {
+    group = group;
+    inner = at_metaslab 0 (look before) ∷ [];
+    holding = record { start = g; stop = g; is_open = is; whole = refl };
+    freed = [];
+    frees = [];
+    freed_are = Freed.none;
+    at = 0;
+    seg = seg;
+    rest = [];
+    inside = omega arith;
+    within = within;
+    copies_are = refl;
+    before = before;
+    unit = unit;
+    lowest = low;
+    vdev_is = vdev_is;
+    offset_is = offset_is;
+    whole = refl;
+  },
+  loads,
+)
 
 -- what a free did
 
@@ -152,14 +159,14 @@ freed_did p m gate lane group seg was some is stays held given =
 
 pub not_live_did : (p : Pool) (m : MsState) (gate : GateState) (lane : ℕ) (group : Group) (seg : Seg) (unit vdev offset : ℕ)
     → IsPool p → 1 ≤ lane → group.0 ≡ open_group p.gate.opened p.gate.notes → StaysButNotes p.metaslab m → StaysButHolds p.gate gate → IsWithin p.metaslab.units seg
-    → IsGivenBack (origin_of p.metaslab) lane group seg p.metaslab.notes m.notes (Some unit) → vdev ≡ 0 → offset ≡ (unit * 4096) % 18446744073709551616
+    → IsGivenBack (origin_of p.metaslab) lane group seg p.metaslab.notes m.notes (Some unit) → vdev ≡ 0 → offset ≡ unit * 2 ^ 12
     → StepDid p lane (FreeLine (ground_of (origin_of p.metaslab)) lane (copies_at (ground_of (origin_of p.metaslab)) (Some seg)) (NotLive vdev offset)) m gate
 not_live_did p m gate lane group seg unit vdev offset was some is stays held within given vdev_is offset_is =
     let o : Origin = origin_of p.metaslab in
     let open_is : group.0 ≡ open_group p.metaslab.opened p.gate.notes = rw (← was.opened) is in
     let same : m.notes ≡ given.before = given.notes ∙ append-nil given.before in
     let leaves = look_leaves o lane p.metaslab.notes given.before p.gate.notes (is_set p.record.bytes.items) p.first some was.sound given.loads in
-    let placed : offset ≡ offset_at (ground_of o) 0 unit = rw was.shift (omega (arith, offset_is, given.may.inside.1, within.within, was.most_units)) in
+    let placed : offset ≡ offset_at (ground_of o) 0 unit = rw was.shift (omega (arith, offset_is)) in
     step_did p m gate lane (FreeLine (ground_of o) lane (copies_at (ground_of o) (Some seg)) (NotLive vdev offset)) (look given.before) was stays held
     (subst (λ l. StepLeaves o lane (look given.before) p.metaslab.notes l p.gate.notes (is_set p.record.bytes.items) p.first) (sym same) leaves)
     (not_live_line o lane group p.gate.notes given.before seg unit vdev offset within open_is given.may vdev_is placed)

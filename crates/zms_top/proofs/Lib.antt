@@ -2,15 +2,12 @@ pub mod StepLemmas
 pub mod AllocSteps
 pub mod FreeSteps
 pub mod NamingLemmas
-pub mod FileLemmas
-pub mod Lines
+pub mod FrontLemmas
 pub mod LookLemmas
-pub mod NameLemmas
 pub mod OpenLemmas
 pub mod PairLemmas
 pub mod PoolLemmas
 pub mod PrintLemmas
-pub mod ReadingLemmas
 pub mod RecordBits
 pub mod RecordBytes
 pub mod RecordRuns

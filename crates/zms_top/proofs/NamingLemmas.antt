@@ -12,9 +12,9 @@ use Rattle.ms_model.specs.Legal.{IsWithin}
 use Rattle.zms_top.specs.Answers.{Replied, copies_after}
 use Rattle.zms_top.specs.Backing.{Ground, dva_at}
 use Rattle.zms_top.specs.Naming.{Blocks, seg_named, copies_at, Learns, AreNamed}
-use Rattle.zms_top.specs.declared.script.Command.{Command}
-use Rattle.zms_top.specs.declared.script.What.{What}
-use Rattle.zms_top.specs.declared.script.What.TheVariants.{Alloc}
+use Rattle.cmd_text.specs.declared.script.Command.{Command}
+use Rattle.cmd_text.specs.declared.script.What.{What}
+use Rattle.cmd_text.specs.declared.script.What.TheVariants.{Alloc}
 use Rattle.zms_top.specs.declared.replies.Answer.{Answer}
 use Rattle.zms_top.specs.declared.replies.Answer.TheVariants.{Granted}
 use Rattle.zms_top.specs.declared.replies.Reply.{Reply}

@@ -4,9 +4,9 @@ use Rattle.std.specs.List.{flat_map}
 use Rattle.std.proofs.lemmas.List.{take-append-drop}
 use Rattle.std.proofs.lemmas.Grind.{flat_map-append}
 use Rattle.zms_top.specs.Texts.{reply_text}
-use Rattle.trace_text.proofs.Printing.{flat_map-more}
+use Rattle.trace_text.proofs.Lists.{flat_map-more}
 use Rattle.zms_top.specs.Answers.{Replied, paired}
-use Rattle.zms_top.specs.declared.script.Command.{Command}
+use Rattle.cmd_text.specs.declared.script.Command.{Command}
 use Rattle.zms_top.specs.declared.replies.Reply.{Reply}
 
 pub length-paired : (cs : List Command) (rs : List Reply) → length cs ≡ length rs → length (paired cs rs) ≡ length cs

@@ -8,7 +8,7 @@ use Rattle.std.proofs.lemmas.Nat.Bits.{bit_at_set_same, bit_at_set_other, bit_at
 use Rattle.zms_dev.specs.Bytes.{byte}
 use Rattle.zms_units.specs.declared.segments.Seg.{Seg}
 use Rattle.zms_units.specs.Segments.{covers, covered}
-use Rattle.zms_units.proofs.UnitTests.{covers_low, covered-push}
+use Rattle.zms_units.proofs.Covers.{covers_low, covered-push}
 use Rattle.zms_top.specs.Record.{is_set}
 
 -- one bit of a byte was put, and the others stay

@@ -6,7 +6,8 @@ use Rattle.std.proofs.lemmas.List.Elements.{All-append}
 use Rattle.zms_units.specs.declared.segments.Seg.{Seg}
 use Rattle.zms_units.specs.Segments.{end_of, covers, covered, AreRisingFrom}
 use Rattle.zms_units.specs.Runs.{IsMaximalRun, AreMaximalRuns}
-use Rattle.zms_units.proofs.UnitTests.{covers_yes, covers_low, covered-push, or_right, or_false, le_or}
+use Rattle.zms_units.proofs.Bools.{or_right, or_false, le_or}
+use Rattle.zms_units.proofs.Covers.{covers_yes, covers_low, covered-push}
 use Rattle.zms_units.proofs.RisingSegs.{rising_high, rising_above}
 
 -- at this unit the runs before `start` stand in the list, and the units from there on are in the set

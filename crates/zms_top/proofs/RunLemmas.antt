@@ -1,6 +1,6 @@
 -- Commands one behind the other.
 use Rattle.std.proofs.Common.{◌≡◌, ℕ, ◌+◌, ◌<◌, ◌≤◌, false, Option, Some, None, List, [], ◌∷◌, ◌++◌, length, take, get_or, refl, sym, ◌∙◌, ap, subst, add-one, arith}
-use Rattle.std.specs.Prelude.{◌⊎◌}
+use Rattle.std.specs.Prelude.{◌⊎◌, cond, is_some, IsSome}
 use Rattle.std.proofs.Common.{inl, inr}
 use Rattle.std.proofs.lemmas.List.{length-append, length-take-le}
 use Rattle.std.proofs.lemmas.Bool.{cases_lt}
@@ -13,25 +13,29 @@ use Rattle.ms_model.specs.Parts.{right_of, gate_right}
 use Rattle.ms_model.specs.Events.{Event, gate_steps, metaslab_steps}
 use Rattle.ms_model.specs.declared.notes.Noted.{Noted}
 use Rattle.ms_model.specs.declared.notes.GateNote.{GateNote}
-use Rattle.ms_model.proofs.Steps.{quiet_both, follows_both, follows_none, gate_steps-append, metaslab_steps-append}
-use Rattle.ms_core.specs.State.{origin_of}
+use Rattle.lane_steps.proofs.Steps.{quiet_both, follows_both, quiet_none}
+use Rattle.ms_model.proofs.Events.{gate_steps-append, metaslab_steps-append}
+use Rattle.ms_core.specs.State.{MsState, origin_of, settled_of}
 use Rattle.txg_gate.specs.Closings.{closings_of}
+use Rattle.zms_dev.specs.Causes.{one_more}
 use Rattle.zms_dev.specs.Disk.{DiskState, Tells}
-use Rattle.zms_top.specs.Answers.{Replied, paired, first_with, IsOfAlloc, IsOfFree}
+use Rattle.zms_top.specs.Answers.{Replied, paired, first_with, synced_after, IsOfAlloc, IsOfFree}
 use Rattle.zms_top.specs.Sound.{Tour, ground_of, HoldsGroup}
 use Rattle.zms_top.specs.Backing.{Lines, WhatLine, AreIntervals}
 use Rattle.zms_top.specs.Acting.{Acted, IsPool, IsKept, LeavesSettled}
 use Rattle.zms_top.specs.Running.{HasRun, answers_of}
 use Rattle.zms_top.specs.Ends.{is_device}
-use Rattle.zms_top.specs.declared.script.Command.{Command}
+use Rattle.cmd_text.specs.declared.script.Command.{Command}
 use Rattle.zms_top.specs.declared.pool.Pool.{Pool}
 use Rattle.zms_top.specs.declared.replies.Answer.{Answer}
 use Rattle.zms_top.specs.declared.replies.Answer.TheVariants.{Granted, NoSpace, BadSize, Done, NoName, NotLive, Device, Suspended}
 use Rattle.zms_top.specs.declared.replies.Reply.{Reply}
 use Rattle.zms_top.proofs.SyncSteps.{stays_both}
 
-pub tour_both : (lane : ℕ) (es fs : List Event) (h i j : List Noted) (g k l : List GateNote) → Tour lane es h i g k → Tour lane fs i j k l → Tour lane (es ++ fs) h j g l
-tour_both lane es fs h i j g k l first then = record {
+pub tour_both : (lane : ℕ) (es fs kept more : List Event) (h i j : List Noted) (g k l : List GateNote) → Tour lane es kept h i g k → Tour lane fs more i j k l → Tour lane (es ++ fs) (kept ++ more) h j g l
+tour_both lane es fs kept more h i j g k l first then = record {
+  keeper = rw (metaslab_steps-append 0 kept more) (follows_both right_of 0 h (metaslab_steps 0 kept) i (metaslab_steps 0 more) j first.keeper then.keeper);
+  keeper_gate = rw (gate_steps-append kept more) (follows_both gate_right 0 g (gate_steps kept) k (gate_steps more) l first.keeper_gate then.keeper_gate);
   metaslab = rw (metaslab_steps-append 0 es fs) (follows_both right_of lane h (metaslab_steps 0 es) i (metaslab_steps 0 fs) j first.metaslab then.metaslab);
   gate = rw (gate_steps-append es fs) (follows_both gate_right lane g (gate_steps es) k (gate_steps fs) l first.gate then.gate);
   others = record {
@@ -42,19 +46,8 @@ tour_both lane es fs h i j g k l first then = record {
 
 -- intervals go on from call to call
 
-pub widen : (low mid high : ℕ) (xs : List Answer) → low ≤ mid → AreIntervals mid high xs → AreIntervals low high xs
-widen low mid high [] le is = omega (arith, le, is)
-widen low mid high (Device b a ∷ rest) le is = (omega (arith, le, is.0), (is.1.0, is.1.1))
-widen low mid high (Granted _ _ ∷ rest) le is = widen low mid high rest le is
-widen low mid high (NoSpace _ ∷ rest) le is = widen low mid high rest le is
-widen low mid high (BadSize ∷ rest) le is = widen low mid high rest le is
-widen low mid high (Done _ ∷ rest) le is = widen low mid high rest le is
-widen low mid high (NoName ∷ rest) le is = widen low mid high rest le is
-widen low mid high (NotLive _ _ ∷ rest) le is = widen low mid high rest le is
-widen low mid high (Suspended _ ∷ rest) le is = widen low mid high rest le is
-
 pub intervals_push : (low mid high : ℕ) (xs : List Answer) (a : Answer) → AreIntervals low mid xs → AreIntervals mid high (a ∷ []) → AreIntervals low high (xs ++ a ∷ [])
-intervals_push low mid high [] a is then = widen low mid high (a ∷ []) is then
+intervals_push low mid high [] a is then = subst (λ n. AreIntervals n high (a ∷ [])) is then
 intervals_push low mid high (Device b c ∷ rest) a is then = (is.0, (is.1.0, intervals_push c mid high rest a is.1.1 then))
 intervals_push low mid high (Granted _ _ ∷ rest) a is then = intervals_push low mid high rest a is then
 intervals_push low mid high (NoSpace _ ∷ rest) a is then = intervals_push low mid high rest a is then
@@ -98,14 +91,35 @@ quiet_first None now (Device _ _) is e = cc
 quiet_first None now (Suspended _) is e = e
 
 pub quiet_intervals : (low : ℕ) (a : Answer) → is_device a ≡ false → AreIntervals low low (a ∷ [])
-quiet_intervals low (Granted _ _) is = omega arith
-quiet_intervals low (NoSpace _) is = omega arith
-quiet_intervals low BadSize is = omega arith
-quiet_intervals low (Done _) is = omega arith
-quiet_intervals low NoName is = omega arith
-quiet_intervals low (NotLive _ _) is = omega arith
+quiet_intervals low (Granted _ _) is = refl
+quiet_intervals low (NoSpace _) is = refl
+quiet_intervals low BadSize is = refl
+quiet_intervals low (Done _) is = refl
+quiet_intervals low NoName is = refl
+quiet_intervals low (NotLive _ _) is = refl
 quiet_intervals low (Device _ _) is = cc
-quiet_intervals low (Suspended _) is = omega arith
+quiet_intervals low (Suspended _) is = refl
+
+-- the count of faults once one more command has its answer: only the first fault raised it
+pub faults_after : (first now : Option First) (a : Answer) (start low high : ℕ) → now ≡ first_with first a → low ≡ cond (is_some first) (one_more start) start
+    → AreIntervals low high (a ∷ []) → (IsSome first → high ≡ low) → high ≡ cond (is_some now) (one_more start) start
+faults_after (Some f) now a start low high is was are same = rw is (same refl ∙ was)
+faults_after None now (Device b c) start low high is was are same = rw is (are.1.1 ∙ (are.1.0 ∙ ap one_more was))
+faults_after None now (Granted _ _) start low high is was are same = rw is (are ∙ was)
+faults_after None now (NoSpace _) start low high is was are same = rw is (are ∙ was)
+faults_after None now BadSize start low high is was are same = rw is (are ∙ was)
+faults_after None now (Done _) start low high is was are same = rw is (are ∙ was)
+faults_after None now NoName start low high is was are same = rw is (are ∙ was)
+faults_after None now (NotLive _ _) start low high is was are same = rw is (are ∙ was)
+faults_after None now (Suspended _) start low high is was are same = rw is (are ∙ was)
+
+pub one_or_none : (first : Option First) (start now : ℕ) → now ≡ cond (is_some first) (one_more start) start → (now ≡ start) ⊎ (now ≡ one_more start)
+one_or_none None start now is = inl is
+one_or_none (Some f) start now is = inr is
+
+-- a pool's record has as many units as its metaslab
+pub same_units : (p q : Pool) (done : List Replied) → IsPool p → HasRun p q done → q.record.units ≡ p.record.units
+same_units p q done was run = run.pool.record_units ∙ (ap (λ (m : MsState). m.units) run.stays ∙ sym was.record_units)
 
 -- the device under a command that leaves what is settled
 pub leaves_kept : (p q : Pool) (disk : DiskState) → LeavesSettled p q → Tells disk → IsKept (origin_of p.metaslab) p.metaslab.notes q.metaslab.notes disk disk
@@ -183,37 +197,44 @@ paired-push cs rs i c r lt same at = rw (add-one, take-suc cs i c, ← at) (pair
 pub run_none : (p : Pool) → IsPool p → p.first ≡ None → HasRun p p []
 run_none p was idle = record {
   events = [];
+  kept = [];
   tour = record {
-    metaslab = follows_none right_of 1 p.metaslab.notes;
-    gate = follows_none gate_right 1 p.gate.notes;
-    others = record { metaslab = λ other low apart. follows_none right_of other p.metaslab.notes; gate = λ other low apart. follows_none gate_right other p.gate.notes };
+    keeper = quiet_none right_of 0 p.metaslab.notes;
+    keeper_gate = quiet_none gate_right 0 p.gate.notes;
+    metaslab = quiet_none right_of 1 p.metaslab.notes;
+    gate = quiet_none gate_right 1 p.gate.notes;
+    others = record { metaslab = λ other low apart. quiet_none right_of other p.metaslab.notes; gate = λ other low apart. quiet_none gate_right other p.gate.notes };
   };
   lines = Lines.none;
   pool = was;
   stays = refl;
   rises = omega arith;
   fault = sym idle;
+  synced = refl;
 }
 
 pub run_more : (p q r : Pool) (done : List Replied) (c : Command) (answer : Answer) → HasRun p q done → c.lane ≡ 1
     → Acted q r c.lane (WhatLine (ground_of (origin_of q.metaslab)) c.lane done c.what answer) → r.first ≡ first_with q.first answer
+    → settled_of r.metaslab ≡ synced_after (settled_of q.metaslab) c.what answer
     → HasRun p r (done ++ record { command = c; reply = record { lane = c.lane; answer = answer } } ∷ [])
-run_more p q r done c answer run lane acted first =
+run_more p q r done c answer run lane acted first synced =
     let next : Replied = record { command = c; reply = record { lane = c.lane; answer = answer } } in
     let origin : origin_of q.metaslab ≡ origin_of p.metaslab = ap origin_of run.stays in
-    let what : WhatLine (ground_of (origin_of p.metaslab)) c.lane done c.what answer acted.events =
-    subst (λ (o : Origin). WhatLine (ground_of o) c.lane done c.what answer acted.events) origin acted.line_is in
-    let tour : Tour 1 acted.events q.metaslab.notes r.metaslab.notes q.gate.notes r.gate.notes =
-    subst (λ l. Tour l acted.events q.metaslab.notes r.metaslab.notes q.gate.notes r.gate.notes) lane acted.tour in
+    let what : WhatLine (ground_of (origin_of p.metaslab)) c.lane done c.what answer acted.events acted.kept =
+    subst (λ (o : Origin). WhatLine (ground_of o) c.lane done c.what answer acted.events acted.kept) origin acted.line_is in
+    let tour : Tour 1 acted.events acted.kept q.metaslab.notes r.metaslab.notes q.gate.notes r.gate.notes =
+    subst (λ l. Tour l acted.events acted.kept q.metaslab.notes r.metaslab.notes q.gate.notes r.gate.notes) lane acted.tour in
     let rises : closings_of 1 r.gate.notes ≤ closings_of 1 q.gate.notes + 1 = subst (λ l. closings_of l r.gate.notes ≤ closings_of l q.gate.notes + 1) lane acted.rises in
     record {
       events = run.events ++ acted.events;
-      tour = tour_both 1 run.events acted.events p.metaslab.notes q.metaslab.notes r.metaslab.notes p.gate.notes q.gate.notes r.gate.notes run.tour tour;
-      lines = Lines.more done run.events next acted.events run.lines (record { lane = refl; what = what });
+      kept = run.kept ++ acted.kept;
+      tour = tour_both 1 run.events acted.events run.kept acted.kept p.metaslab.notes q.metaslab.notes r.metaslab.notes p.gate.notes q.gate.notes r.gate.notes run.tour tour;
+      lines = Lines.more done run.events run.kept next acted.events acted.kept run.lines (record { lane = refl; what = what });
       pool = acted.pool;
       stays = stays_both p.metaslab q.metaslab r.metaslab run.stays acted.stays;
       rises = omega (arith, run.rises, rises, length-append done (next ∷ []));
       fault = fold_push (λ so_far (x : Replied). first_with so_far x.reply.answer) None done next ∙ (ap (λ f. first_with f answer) run.fault ∙ sym first);
+      synced = synced ∙ (ap (λ n. synced_after n c.what answer) run.synced ∙ sym (fold_push (λ so_far (x : Replied). synced_after so_far x.command.what x.reply.answer) (settled_of p.metaslab) done next));
     }
 
 -- no fault is kept after a command only where none was before

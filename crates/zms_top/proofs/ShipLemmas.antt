@@ -2,7 +2,7 @@
 use Rattle.std.proofs.Common.{◌≡◌, Result, Ok, Err, ap}
 use Rattle.std.specs.Prelude.{OnErr, IsErr}
 use Rattle.zms_dev.specs.declared.failed.Failed.{Failed}
-use Rattle.zms_top.specs.Reporting.{SinkState}
+use Rattle.zms_dev.specs.Stream.{SinkState}
 
 -- a sink that stays as it is shows the same
 pub stops_by : {T : Type 0} (shows : T → SinkState) (old now : T) (printed written : Result (Unit {0}) Failed)

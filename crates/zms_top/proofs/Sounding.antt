@@ -5,75 +5,20 @@ use Rattle.std.proofs.lemmas.List.Elements.{All-push}
 use Rattle.zms_units.specs.declared.faults.First.{First}
 use Rattle.zms_units.specs.declared.segments.Group.{Group}
 use Rattle.ms_model.specs.Origin.{Origin}
-use Rattle.ms_model.specs.Units.{held, settled_by, settled_group, collected_by, collected_group}
+use Rattle.ms_model.specs.Units.{held, settled_group, collected_group}
 use Rattle.ms_model.specs.Legal.{IsLegal, MayDo}
 use Rattle.ms_model.specs.Gains.{is_gained, is_given}
 use Rattle.ms_model.specs.Gates.{open_group}
 use Rattle.ms_model.specs.declared.notes.Act.{Act}
-use Rattle.ms_model.specs.declared.notes.Act.TheVariants.{Grant, Free, Unalloc, Miss, Shut, Collect, Settle, Load, Unload, Disable, Work, Enable}
+use Rattle.ms_model.specs.declared.notes.Act.TheVariants.{Collect, Settle, Unload}
 use Rattle.ms_model.specs.declared.notes.Noted.{Noted}
 use Rattle.ms_model.specs.declared.notes.GateNote.{GateNote}
 use Rattle.ms_model.specs.declared.notes.GateNote.TheVariants.{Closed, Settled}
-use Rattle.ms_model.proofs.Histories.{settled_group-push, collected_group-push, legal_push}
+use Rattle.ms_model.proofs.Histories.{LeavesGroups, no_unload, settled_note, collected_note, settled_group-push, collected_group-push, legal_push}
 use Rattle.ms_model.proofs.Overlaps.{unit_facts}
 use Rattle.ms_model.proofs.Held.{ChangesUpTo, held-quiet}
 use Rattle.zms_top.specs.Sound.{IsSound}
 use Rattle.ms_model.proofs.GateGroups.{open_group-push, synced_group-push}
-
--- the notes that leave groups alone
-abbrev pub LeavesGroups : Act → Type 0
-LeavesGroups (Collect _) = ⊥
-LeavesGroups (Settle _) = ⊥
-LeavesGroups Unload = ⊥
-LeavesGroups _ = Unit {0}
-
-settled_stays : (s : ℕ) (act : Act) → LeavesGroups act → settled_by s act ≡ s
-settled_stays s (Collect _) leaves = absurd leaves
-settled_stays s (Settle _) leaves = absurd leaves
-settled_stays s Unload leaves = refl
-settled_stays s (Grant _ _) leaves = refl
-settled_stays s (Free _ _) leaves = refl
-settled_stays s (Unalloc _ _) leaves = refl
-settled_stays s (Miss _) leaves = refl
-settled_stays s Shut leaves = refl
-settled_stays s Load leaves = refl
-settled_stays s (Disable _) leaves = refl
-settled_stays s (Work _ _ _) leaves = refl
-settled_stays s (Enable _) leaves = refl
-
-collected_stays : (s : ℕ) (act : Act) → LeavesGroups act → collected_by s act ≡ s
-collected_stays s (Collect _) leaves = absurd leaves
-collected_stays s (Settle _) leaves = absurd leaves
-collected_stays s Unload leaves = refl
-collected_stays s (Grant _ _) leaves = refl
-collected_stays s (Free _ _) leaves = refl
-collected_stays s (Unalloc _ _) leaves = refl
-collected_stays s (Miss _) leaves = refl
-collected_stays s Shut leaves = refl
-collected_stays s Load leaves = refl
-collected_stays s (Disable _) leaves = refl
-collected_stays s (Work _ _ _) leaves = refl
-collected_stays s (Enable _) leaves = refl
-
-no_unload : (act : Act) → LeavesGroups act → act ≢ Unload
-no_unload Unload leaves e = leaves
-no_unload (Collect _) leaves e = leaves
-no_unload (Settle _) leaves e = leaves
-no_unload (Grant _ _) leaves e = cc
-no_unload (Free _ _) leaves e = cc
-no_unload (Unalloc _ _) leaves e = cc
-no_unload (Miss _) leaves e = cc
-no_unload Shut leaves e = cc
-no_unload Load leaves e = cc
-no_unload (Disable _) leaves e = cc
-no_unload (Work _ _ _) leaves e = cc
-no_unload (Enable _) leaves e = cc
-
-pub settled_note : (o : Origin) (h : List Noted) (lane : ℕ) (act : Act) → LeavesGroups act → settled_group o (h ++ record { lane = lane; act = act } ∷ []) ≡ settled_group o h
-settled_note o h lane act leaves = settled_group-push o h (record { lane = lane; act = act }) ∙ settled_stays (settled_group o h) act leaves
-
-pub collected_note : (o : Origin) (h : List Noted) (lane : ℕ) (act : Act) → LeavesGroups act → collected_group o (h ++ record { lane = lane; act = act } ∷ []) ≡ collected_group o h
-collected_note o h lane act leaves = collected_group-push o h (record { lane = lane; act = act }) ∙ collected_stays (collected_group o h) act leaves
 
 -- a note that leaves the groups, and what the settled one holds, leaves the pool sound
 pub sound_note : (o : Origin) (h : List Noted) (g : List GateNote) (set : ℕ → Bool) (first : Option First) (lane : ℕ) (act : Act)

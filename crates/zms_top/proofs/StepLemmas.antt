@@ -14,21 +14,23 @@ use Rattle.ms_model.specs.Legal.{MayDo}
 use Rattle.ms_model.specs.Gates.{open_group}
 use Rattle.ms_model.specs.Steps.{Step, look, noting, Quiet, Follows}
 use Rattle.ms_model.specs.Parts.{right_of, gate_right}
-use Rattle.ms_model.specs.Events.{Event, at_gate, at_metaslab}
+use Rattle.ms_model.specs.Events.{Event, at_gate, at_metaslab, gate_steps, metaslab_steps}
 use Rattle.ms_model.specs.declared.notes.Act.{Act}
 use Rattle.ms_model.specs.declared.notes.Act.TheVariants.{Load}
 use Rattle.ms_model.specs.declared.notes.Noted.{Noted}
 use Rattle.ms_model.specs.declared.notes.GateNote.{GateNote}
 use Rattle.ms_model.proofs.Held.{ChangesUpTo, held-quiet, held-as_opened}
 use Rattle.ms_model.proofs.Overlaps.{settled_le_collected}
-use Rattle.ms_model.proofs.Steps.{quiet_none, quiet_both}
-use Rattle.ms_core.specs.State.{MsState, origin_of, settled_of, StaysButNotes}
+use Rattle.lane_steps.proofs.Steps.{quiet_none, quiet_both, follows_both}
+use Rattle.ms_core.specs.State.{Memory, MsState, origin_of, settled_of, StaysButNotes}
 use Rattle.txg_gate.specs.GateState.{GateState}
 use Rattle.zms_top.specs.Record.{is_set}
+use Rattle.zms_top.specs.Backing.{AreLoads}
 use Rattle.zms_top.specs.Acting.{Acted, IsPool, LeavesSettled}
 use Rattle.zms_top.specs.declared.pool.Pool.{Pool}
 use Rattle.zms_top.specs.Sound.{IsSound, Loads, loaded, loads}
-use Rattle.zms_top.proofs.Sounding.{LeavesGroups, sound_note, settled_note, collected_note}
+use Rattle.ms_model.proofs.Histories.{LeavesGroups, settled_note, collected_note}
+use Rattle.zms_top.proofs.Sounding.{sound_note}
 
 -- a note of the keeper's is quiet for a lane
 pub quiet_keeper : (lane : ℕ) (h : List Noted) (by : ℕ) (act : Act) → right_of (record { lane = by; act = act }) ≡ 0 → 1 ≤ lane
@@ -67,6 +69,32 @@ pub collected_loads : (o : Origin) (lane : ℕ) (h j : List Noted) → Loads lan
 collected_loads o lane h j (loaded is) = refl
 collected_loads o lane h j (loads is) = collected_note o h lane Load tt
 
+-- what the keeper did for a lane at the one metaslab: at most a load
+pub record LoadsKept (lane : ℕ) (h new : List Noted) : Type 0 where
+  pub kept : List Event
+  pub follows : Follows right_of 0 h (metaslab_steps 0 kept) new
+  pub no_gate : gate_steps kept ≡ []
+  pub loads : AreLoads lane 1 kept
+
+kept_loads : (lane : ℕ) (h j : List Noted) → Loads lane h j → LoadsKept lane h j
+kept_loads lane h j (loaded is) = record { kept = []; follows = quiet_none right_of 0 h; no_gate = refl; loads = tt }
+kept_loads lane h j (loads is) = record {
+  kept = at_metaslab 0 (noting h (record { lane = lane; act = Load })) ∷ [];
+  follows = (quiet_none right_of 0 h, (refl, quiet_none right_of 0 (h ++ record { lane = lane; act = Load } ∷ [])));
+  no_gate = refl;
+  loads = (omega arith, (refl, tt));
+}
+
+-- a note that is not the keeper's leaves what the keeper did
+kept_then : (lane : ℕ) (h before : List Noted) (note : Noted) → 1 ≤ right_of note → LoadsKept lane h before → LoadsKept lane h (before ++ note ∷ [])
+kept_then lane h before note some was = record {
+  kept = was.kept;
+  follows = subst (λ steps. Follows right_of 0 h steps (before ++ note ∷ [])) (append-nil (metaslab_steps 0 was.kept))
+      (follows_both right_of 0 h (metaslab_steps 0 was.kept) before [] (before ++ note ∷ []) was.follows (quiet_other right_of 0 before note (λ e. omega (arith, some, e))));
+  no_gate = was.no_gate;
+  loads = was.loads;
+}
+
 -- what a step leaves: the pool sound, what is settled as it was, and one step of the lane in the metaslab's journal
 pub record StepLeaves (o : Origin) (lane : ℕ) (step : Step Noted) (h new : List Noted) (g : List GateNote) (set : ℕ → Bool) (first : Option First) : Type 0 where
   pub sound : IsSound o new g set first
@@ -74,6 +102,7 @@ pub record StepLeaves (o : Origin) (lane : ℕ) (step : Step Noted) (h new : Lis
   pub held_stays : (u : ℕ) → held o new (settled_group o h) u ≡ held o h (settled_group o h) u
   pub follows : Follows right_of lane h (step ∷ []) new
   pub others : (other : ℕ) → 1 ≤ other → other ≢ lane → Quiet right_of other h new
+  pub kept : LoadsKept lane h new
 
 -- a look without a note, at a metaslab that was loaded first where it needed to be
 pub look_leaves : (o : Origin) (lane : ℕ) (h before : List Noted) (g : List GateNote) (set : ℕ → Bool) (first : Option First)
@@ -84,6 +113,7 @@ look_leaves o lane h before g set first some was in_memory = record {
   held_stays = λ u. held_loads o lane h before (settled_group o h) u in_memory;
   follows = (loads_quiet lane lane h before some in_memory, (tt, subst (λ l. Quiet right_of lane l before) (sym (append-nil before)) (quiet_none right_of lane before)));
   others = λ other low apart. loads_quiet other lane h before low in_memory;
+  kept = kept_loads lane h before in_memory;
 }
 
 -- a note of the lane's, of a group above the settled one
@@ -105,6 +135,7 @@ note_leaves o lane act h before new g set first some was in_memory is may leaves
       others = λ other low apart.
           subst (Quiet right_of other h) (sym is)
           (quiet_both right_of other h before (before ++ note ∷ []) (loads_quiet other lane h before low in_memory) (quiet_other right_of other before note (λ e. apart (e ∙ right))));
+      kept = subst (LoadsKept lane h) (sym is) (kept_then lane h before note (omega (arith, some, right)) mid.kept);
     }
 
 -- a lane that holds the open group while it looks
@@ -114,12 +145,15 @@ looks_at_gate lane g =
     (quiet_none gate_right lane g, (tt, (still, (tt, still))))
 
 -- a command that did nothing
-pub nothing_did : (p : Pool) (lane : ℕ) (line : List Event → Type 0) → IsPool p → line [] → Acted p p lane line
+pub nothing_did : (p : Pool) (lane : ℕ) (line : List Event → List Event → Type 0) → IsPool p → line [] [] → Acted p p lane line
 nothing_did p lane line was is = record {
   events = [];
+  kept = [];
   tour = record {
     metaslab = quiet_none right_of lane p.metaslab.notes;
     gate = quiet_none gate_right lane p.gate.notes;
+    keeper = quiet_none right_of 0 p.metaslab.notes;
+    keeper_gate = quiet_none gate_right 0 p.gate.notes;
     others = record { metaslab = λ other low apart. quiet_none right_of other p.metaslab.notes; gate = λ other low apart. quiet_none gate_right other p.gate.notes };
   };
   line_is = is;
@@ -130,9 +164,9 @@ nothing_did p lane line was is = record {
 
 -- from the pool's parts to the pool
 
-stepped_pool : (p : Pool) (n : List Noted) (r : ℕ) (counts : List ℕ) → IsPool p → IsSound (origin_of p.metaslab) n p.gate.notes (is_set p.record.bytes.items) p.first
-    → IsPool (record p { metaslab = record p.metaslab { notes = n; room = r }; gate = record p.gate { counts = counts } })
-stepped_pool p n r counts was sound = record {
+stepped_pool : (p : Pool) (n : List Noted) (r : ℕ) (memory : Memory) (counts : List ℕ) → IsPool p → IsSound (origin_of p.metaslab) n p.gate.notes (is_set p.record.bytes.items) p.first
+    → IsPool (record p { metaslab = record p.metaslab { notes = n; room = r; memory = memory }; gate = record p.gate { counts = counts } })
+stepped_pool p n r memory counts was sound = record {
   least_units = was.least_units;
   most_units = was.most_units;
   shift = was.shift;
@@ -154,7 +188,7 @@ StaysButHolds old new = new ≡ record old { counts = new.counts }
 pub stays_held : (a b c : GateState) → StaysButHolds a b → StaysButHolds b c → StaysButHolds a c
 stays_held a b c first then = then ∙ ap (λ (g : GateState). let r : GateState = record g { counts = c.counts } in r) first
 
-pub record StepDid (p : Pool) (lane : ℕ) (line : List Event → Type 0) (m : MsState) (g : GateState) : Type 0 where
+pub record StepDid (p : Pool) (lane : ℕ) (line : List Event → List Event → Type 0) (m : MsState) (g : GateState) : Type 0 where
   pub acted : Acted p (after_step p m g) lane line
   pub leaves : LeavesSettled p (after_step p m g)
 
@@ -162,21 +196,24 @@ pub record StepDid (p : Pool) (lane : ℕ) (line : List Event → Type 0) (m : M
 abbrev pub step_events : List GateNote → Step Noted → List Event
 step_events g step = at_gate (look g) ∷ ((at_metaslab 0 step ∷ []) ++ (at_gate (look g) ∷ []))
 
-pub step_did : (p : Pool) (m : MsState) (g : GateState) (lane : ℕ) (line : List Event → Type 0) (step : Step Noted) → IsPool p → StaysButNotes p.metaslab m → StaysButHolds p.gate g
+pub step_did : (p : Pool) (m : MsState) (g : GateState) (lane : ℕ) (line : List Event → List Event → Type 0) (step : Step Noted) → IsPool p → StaysButNotes p.metaslab m → StaysButHolds p.gate g
     → StepLeaves (origin_of p.metaslab) lane step p.metaslab.notes m.notes p.gate.notes (is_set p.record.bytes.items) p.first
-    → line (step_events p.gate.notes step) → StepDid p lane line m g
+    → ((kept : List Event) → AreLoads lane 1 kept → line (step_events p.gate.notes step) kept) → StepDid p lane line m g
 step_did p m g lane line step was stays held leaves is =
     subst (λ x. StepDid p lane line x g) (sym stays)
     (subst (StepDid p lane line _) (sym held) (record {
       acted = record {
         events = step_events p.gate.notes step;
+        kept = leaves.kept.kept;
         tour = record {
           metaslab = leaves.follows;
           gate = looks_at_gate lane p.gate.notes;
+          keeper = leaves.kept.follows;
+          keeper_gate = subst (λ steps. Follows gate_right 0 p.gate.notes steps p.gate.notes) (sym leaves.kept.no_gate) (quiet_none gate_right 0 p.gate.notes);
           others = record { metaslab = leaves.others; gate = λ other low apart. quiet_none gate_right other p.gate.notes };
         };
-        line_is = is;
-        pool = stepped_pool p m.notes m.room g.counts was leaves.sound;
+        line_is = is leaves.kept.kept leaves.kept.loads;
+        pool = stepped_pool p m.notes m.room m.memory g.counts was leaves.sound;
         stays = refl;
         rises = omega arith;
       };

@@ -20,17 +20,18 @@ use Rattle.ms_model.specs.declared.notes.Noted.{Noted}
 use Rattle.ms_model.specs.declared.notes.GateNote.{GateNote}
 use Rattle.ms_model.specs.declared.notes.GateNote.TheVariants.{Closed, Settled}
 use Rattle.ms_model.proofs.Histories.{settled_group-push, collected_group-push}
-use Rattle.ms_model.proofs.Steps.{quiet_none, quiet_both}
+use Rattle.lane_steps.proofs.Steps.{quiet_none, quiet_both}
 use Rattle.ms_core.specs.State.{MsState, origin_of, settled_of, collected_of, StaysButNotes}
 use Rattle.txg_gate.specs.Closings.{closings_of}
 use Rattle.txg_gate.proofs.Journal.{closings_push, closings_settled}
-use Rattle.zms_dev.specs.Causes.{Rose}
+use Rattle.zms_dev.specs.Causes.{one_more}
 use Rattle.zms_dev.specs.Disk.{DiskState, Tells}
 use Rattle.txg_gate.specs.GateState.{GateState}
 use Rattle.zms_top.specs.Record.{IsRecord, IsStored, is_set}
 use Rattle.zms_top.specs.Sound.{IsSound, ground_of, HoldsGroup}
-use Rattle.zms_top.specs.Answers.{first_with}
-use Rattle.zms_top.specs.Backing.{SyncLine, SeenSettled, AreIntervals}
+use Rattle.zms_top.specs.Answers.{first_with, synced_after}
+use Rattle.cmd_text.specs.declared.script.What.TheVariants.{Sync}
+use Rattle.zms_top.specs.Backing.{SyncLine, SeenSettled, NotedAtEach, AreIntervals}
 use Rattle.zms_top.specs.Acting.{Acted, IsPool, IsClosed, IsCommitted, IsKept}
 use Rattle.zms_top.specs.declared.replies.Answer.{Answer}
 use Rattle.zms_top.specs.declared.pool.Pool.{Pool}
@@ -43,7 +44,7 @@ use Rattle.zms_top.proofs.PoolLemmas.{pool_grows}
 -- nothing was done, and the kept fault is told
 pub suspended_did : (p : Pool) (lane : ℕ) (fault : First) → IsPool p → p.first ≡ Some fault
     → Acted p p lane (SyncLine (ground_of (origin_of p.metaslab)) lane p.first (Suspended fault))
-suspended_did p lane fault was is = nothing_did p lane (SyncLine (ground_of (origin_of p.metaslab)) lane p.first (Suspended fault)) was (rw is (refl, refl))
+suspended_did p lane fault was is = nothing_did p lane (SyncLine (ground_of (origin_of p.metaslab)) lane p.first (Suspended fault)) was (rw is (refl, (refl, refl)))
 
 -- a settling is quiet for a lane
 settling_quiet : (lane : ℕ) (g : List GateNote) (group : Group) → 1 ≤ lane → Quiet gate_right lane g (g ++ Settled group ∷ [])
@@ -90,9 +91,9 @@ pub failed_did : (p q : Pool) (lane : ℕ) (group : Group) (low high : ℕ)
     → IsPool p → p.first ≡ None → 1 ≤ lane → group.0 ≡ open_group p.gate.opened p.gate.notes
     → q.gate.opened ≡ p.gate.opened → q.gate.notes ≡ p.gate.notes ++ Closed lane group ∷ []
     → q.metaslab.notes ≡ p.metaslab.notes ++ record { lane = lane; act = Collect group } ∷ [] → StaysButNotes p.metaslab q.metaslab
-    → q.base ≡ p.base → q.record.units ≡ p.record.units → q.first ≡ Some (FirstDevice low high) → Rose low high
+    → q.base ≡ p.base → q.record.units ≡ p.record.units → q.first ≡ Some (FirstDevice low high) → high ≡ one_more low
     → Acted p q lane (SyncLine (ground_of (origin_of p.metaslab)) lane p.first (Device low high))
-failed_did p q lane group low high was idle some is opened gate notes stays base units fault rose =
+failed_did p q lane group low high was idle some is opened gate notes stays base units fault once =
     let o : Origin = origin_of p.metaslab in
     let is_open : group.0 ≡ open_group p.metaslab.opened p.gate.notes = rw (← was.opened) is in
     let sound_was : IsSound o p.metaslab.notes p.gate.notes (is_set p.record.bytes.items) None = subst (IsSound o p.metaslab.notes p.gate.notes (is_set p.record.bytes.items)) idle was.sound in
@@ -103,15 +104,18 @@ failed_did p q lane group low high was idle some is opened gate notes stays base
     let rises : closings_of lane q.gate.notes ≤ closings_of lane p.gate.notes + 1 = rw gate (closings_push lane p.gate.notes (Closed lane group)) in
     record {
       events = at_gate (noting p.gate.notes (Closed lane group)) ∷ [];
+      kept = at_metaslab 0 (noting p.metaslab.notes (record { lane = lane; act = Collect group })) ∷ [];
       tour = record {
         metaslab = quiet;
         gate = (quiet_none gate_right lane p.gate.notes, (refl, after));
+        keeper = rw notes (quiet_none right_of 0 p.metaslab.notes, (refl, quiet_none right_of 0 (p.metaslab.notes ++ record { lane = lane; act = Collect group } ∷ [])));
+        keeper_gate = rw gate (quiet_other gate_right 0 p.gate.notes (Closed lane group) (λ e. omega (arith, some, e)));
         others = record {
           metaslab = λ other low apart. rw notes (quiet_keeper other p.metaslab.notes lane (Collect group) refl low);
           gate = λ other low apart. rw gate (quiet_other gate_right other p.gate.notes (Closed lane group) apart);
         };
       };
-      line_is = rw idle (record { before = p.gate.notes; group = group; is_open = is_open; rose = rose; whole = refl });
+      line_is = rw idle (record { before = p.gate.notes; group = group; collected = NotedAtEach.more 0 [] p.metaslab.notes NotedAtEach.none; is_open = is_open; once = once; whole = refl });
       pool = pool_grows p q was stays opened base units sound_now;
       stays = stays;
       rises = rises;
@@ -146,7 +150,10 @@ done_did p q lane group was idle some is opened gate notes stays base units firs
     rw (gate, closings_settled lane closed group some) (closings_push lane p.gate.notes (Closed lane group)) in
     record {
       events = at_gate (noting p.gate.notes (Closed lane group)) ∷ ((at_metaslab 0 (look q.metaslab.notes) ∷ []) ++ (at_gate (look q.gate.notes) ∷ []));
+      kept = at_metaslab 0 (noting p.metaslab.notes collect) ∷ (at_metaslab 0 (noting mid settle) ∷ (at_gate (noting closed (Settled group)) ∷ []));
       tour = record {
+        keeper = rw notes (quiet_none right_of 0 p.metaslab.notes, (refl, (quiet_none right_of 0 mid, (refl, quiet_none right_of 0 (mid ++ settle ∷ [])))));
+        keeper_gate = rw gate (quiet_other gate_right 0 p.gate.notes (Closed lane group) (λ e. omega (arith, some, e)), (refl, quiet_none gate_right 0 (closed ++ Settled group ∷ [])));
         metaslab = (quiet, (tt, still));
         gate = (quiet_none gate_right lane p.gate.notes, (refl, (settling, (tt, gate_still))));
         others = record {
@@ -164,6 +171,12 @@ done_did p q lane group was idle some is opened gate notes stays base units firs
         after = q.gate.notes;
         gate_settled = gate_seen;
         whole = refl;
+        collects = at_metaslab 0 (noting p.metaslab.notes collect) ∷ [];
+        collected = NotedAtEach.more 0 [] p.metaslab.notes NotedAtEach.none;
+        settles = at_metaslab 0 (noting mid settle) ∷ [];
+        settled_each = NotedAtEach.more 0 [] mid NotedAtEach.none;
+        gate_before = closed;
+        kept_is = refl;
       });
       pool = pool_grows p q was stays opened base units sound_now;
       stays = stays;
@@ -184,14 +197,14 @@ pub record SyncDid (p q : Pool) (lane low high : ℕ) (answer : Answer) : Type 0
   pub acted : Acted p q lane (SyncLine (ground_of (origin_of p.metaslab)) lane p.first answer)
   pub first : q.first ≡ first_with p.first answer
   pub intervals : AreIntervals low high (answer ∷ [])
-  pub later : low ≤ high
+  pub synced : settled_of q.metaslab ≡ synced_after (settled_of p.metaslab) Sync answer
 
 pub stays_both : (a b c : MsState) → StaysButNotes a b → StaysButNotes b c → StaysButNotes a c
-stays_both a b c first then = then ∙ ap (λ (m : MsState). let r : MsState = record m { notes = c.notes; room = c.room } in r) first
+stays_both a b c first then = then ∙ ap (λ (m : MsState). let r : MsState = record m { notes = c.notes; room = c.room; memory = c.memory } in r) first
 
 pub sync_did : (p mid q : Pool) (lane : ℕ) (group : Group) (low high : ℕ) (answer : Answer)
     → IsPool p → p.first ≡ None → 1 ≤ lane → IsClosed p mid lane group → IsCommitted mid q lane group low high answer → SyncDid p q lane low high answer
-sync_did p mid q lane group low high answer was idle some closed (IsCommitted.settled is gate notes stays first base units bits later) =
+sync_did p mid q lane group low high answer was idle some closed (IsCommitted.settled is gate notes stays first base units bits same) =
     let gate_notes : q.gate.notes ≡ (p.gate.notes ++ Closed lane group ∷ []) ++ Settled group ∷ [] =
     ap (λ (g : GateState). g.notes) gate ∙ ap (λ (g : GateState). g.notes ++ Settled group ∷ []) closed.gate in
     let all : (u : ℕ) → u < p.metaslab.units → is_set q.record.bytes.items u ≡ (not (is_given group.0 p.metaslab.notes u) && (is_gained group.0 p.metaslab.notes u || is_set p.record.bytes.items u)) =
@@ -202,18 +215,20 @@ sync_did p mid q lane group low high answer was idle some closed (IsCommitted.se
           (notes ∙ ap (λ l. l ++ record { lane = lane; act = Settle group } ∷ []) closed.notes) (stays_both p.metaslab mid.metaslab q.metaslab closed.stays stays)
           (base ∙ closed.base) (units ∙ closed.units) idle_now all;
       first = rw idle idle_now;
-      intervals = later;
-      later = later;
+      intervals = same;
+      synced = ap (λ (x : Origin). settled_group x q.metaslab.notes) (ap origin_of (stays_both p.metaslab mid.metaslab q.metaslab closed.stays stays))
+          ∙ (ap (settled_group (origin_of p.metaslab)) notes ∙ settled_group-push (origin_of p.metaslab) mid.metaslab.notes (record { lane = lane; act = Settle group }));
     })
-sync_did p mid q lane group low high answer was idle some closed (IsCommitted.failed is rose later gate metaslab first base units bits) =
+sync_did p mid q lane group low high answer was idle some closed (IsCommitted.failed is once gate metaslab first base units bits) =
     let gate_notes : q.gate.notes ≡ p.gate.notes ++ Closed lane group ∷ [] = ap (λ (g : GateState). g.notes) (gate ∙ closed.gate) in
     rw is (record {
       acted = failed_did p q lane group low high was idle some closed.is_open (ap (λ (g : GateState). g.opened) (gate ∙ closed.gate)) gate_notes
           (ap (λ (m : MsState). m.notes) metaslab ∙ closed.notes) (subst (StaysButNotes p.metaslab) (sym metaslab) closed.stays)
-          (base ∙ closed.base) (units ∙ closed.units) first rose;
+          (base ∙ closed.base) (units ∙ closed.units) first once;
       first = rw idle first;
-      intervals = (omega arith, (rose, omega arith));
-      later = later;
+      intervals = (refl, (once, refl));
+      synced = ap settled_of metaslab ∙ (ap (λ (x : Origin). settled_group x mid.metaslab.notes) (ap origin_of closed.stays)
+          ∙ (ap (settled_group (origin_of p.metaslab)) closed.notes ∙ settled_group-push (origin_of p.metaslab) p.metaslab.notes (record { lane = lane; act = Collect group })));
     })
 
 -- and what the device holds then, where no fault is kept
@@ -238,7 +253,7 @@ kept_after p mid q lane group low high answer old new was idle now closed (IsCom
       held_same = λ e. absurd (omega (arith, e, next, settled));
       stored = λ lt c leaves. subst (λ (x : Origin). HoldsGroup c x q.metaslab.notes) origin (stored_holds q group c now none settled_q (stored is c leaves));
     }
-kept_after p mid q lane group low high answer old new was idle now closed (IsCommitted.failed is rose later gate metaslab first base units bits) none tells stored =
+kept_after p mid q lane group low high answer old new was idle now closed (IsCommitted.failed is once gate metaslab first base units bits) none tells stored =
     absurd (never (FirstDevice low high) (sym first ∙ none)) where
       never : (x : First) → Some x ≡ None → ⊥
       never x e = cc

@@ -1,7 +1,10 @@
 -- The words of the command line, as lists.
-use Rattle.std.proofs.Common.{String, Global, ◌≡◌, ℕ, ◌^◌, ◌≤◌, ◌<◌, List, [], ◌∷◌, ◌++◌, length, get_or, refl, sym, ◌∙◌, ap, arith}
-use Rattle.std.specs.Prelude.{codes, decimal, map, string_bytes}
-use Rattle.std.proofs.lemmas.List.{append_cancel_left, append_cancel_right}
+use Rattle.std.proofs.Common.{Option, Some, None, Bor, String, Global, ◌≡◌, ℕ, ◌+◌, ◌-◌, ◌^◌, ◌≤◌, ◌<◌, true, false, List, [], ◌∷◌, ◌++◌, length, take, drop, get_or, refl, sym, ◌∙◌, ap, arith, length-append}
+use Rattle.std.specs.Prelude.{MatchOption, IfSome, IfNone, codes, decimal, map, string_bytes}
+use Rattle.std.specs.Str.{bytes_eq}
+use Rattle.std.proofs.lemmas.Slice.Eq.{bytes_eq-Decides}
+use Rattle.std.proofs.Math.Seq.{take-append_seam, drop-append_seam}
+use Rattle.std.proofs.lemmas.List.{append_cancel_left, append_cancel_right, take-append-drop}
 use Rattle.std.proofs.lemmas.Fmt.{decimal_injective}
 use Rattle.zms_top.specs.Words.{IsPoolName, spec_text, AsksOf, Asks}
 use Rattle.zms_top.specs.declared.words.Asked.{Asked}
@@ -54,3 +57,57 @@ asks_of_once words p q (Create m) (Create n) one two =
 
 pub asks_once : (words : List (List ℕ)) (x y : Asked) → Asks words x → Asks words y → x ≡ y
 asks_once words x y one two = asks_of_once words one.pool two.pool x y one.are two.are
+
+-- what stands behind a text, and before one
+
+pub behind : (text head : List ℕ) → bytes_eq (take (length head) text) head ≡ true → head ++ drop (length head) text ≡ text
+behind text head e =
+    let same : take (length head) text ≡ head = (bytes_eq-Decides (take (length head) text) head).0 e in
+    ap (λ l. l ++ drop (length head) text) (sym same) ∙ take-append-drop (length head) text
+
+pub not_behind : (text head : List ℕ) → bytes_eq (take (length head) text) head ≡ false → (rest : List ℕ) → head ++ rest ≡ text → ⊥
+not_behind text head e rest is =
+    let same : take (length head) text ≡ head = ap (take (length head)) (sym is) ∙ take-append_seam head rest in
+    let yes : bytes_eq (take (length head) text) head ≡ true = (bytes_eq-Decides (take (length head) text) head).1 same in
+    cc
+
+pub in_front : (text tail : List ℕ) → bytes_eq (drop (length text - length tail) text) tail ≡ true → take (length text - length tail) text ++ tail ≡ text
+in_front text tail e =
+    let same : drop (length text - length tail) text ≡ tail = (bytes_eq-Decides (drop (length text - length tail) text) tail).0 e in
+    ap (λ l. take (length text - length tail) text ++ l) (sym same) ∙ take-append-drop (length text - length tail) text
+
+pub not_in_front : (text tail : List ℕ) → bytes_eq (drop (length text - length tail) text) tail ≡ false → (front : List ℕ) → front ++ tail ≡ text → ⊥
+not_in_front text tail e front is =
+    let at : length text - length tail ≡ length front = omega (arith, ap length is, length-append front tail) in
+    let same : drop (length text - length tail) text ≡ tail =
+    ap (λ n. drop n text) at ∙ ap (drop (length front)) (sym is) ∙ drop-append_seam front tail in
+    let yes : bytes_eq (drop (length text - length tail) text) tail ≡ true = (bytes_eq-Decides (drop (length text - length tail) text) tail).1 same in
+    cc
+
+pub after_some : (text head : List ℕ) (r : Option (Bor (List ℕ)))
+    → MatchOption r (bytes_eq (take (length head) text) head ≡ false)
+    (λ x. (bytes_eq (take (length head) text) head ≡ true) × (x.now ≡ drop (length head) text) × (length x.now + length head ≡ length text))
+    → IfSome r (λ rest. head ++ rest.now ≡ text)
+after_some text head None m = tt
+after_some text head (Some x) m = ap (λ l. head ++ l) m.1 ∙ behind text head m.0
+
+pub after_none : (text head : List ℕ) (r : Option (Bor (List ℕ)))
+    → MatchOption r (bytes_eq (take (length head) text) head ≡ false)
+    (λ x. (bytes_eq (take (length head) text) head ≡ true) × (x.now ≡ drop (length head) text) × (length x.now + length head ≡ length text))
+    → IfNone r ((rest : List ℕ) → head ++ rest ≡ text → ⊥)
+after_none text head None m = not_behind text head m
+after_none text head (Some x) m = tt
+
+pub before_some : (text tail : List ℕ) (r : Option (Bor (List ℕ)))
+    → MatchOption r (bytes_eq (drop (length text - length tail) text) tail ≡ false)
+    (λ x. (bytes_eq (drop (length text - length tail) text) tail ≡ true) × (x.now ≡ take (length text - length tail) text) × (length x.now + length tail ≡ length text))
+    → IfSome r (λ front. front.now ++ tail ≡ text)
+before_some text tail None m = tt
+before_some text tail (Some x) m = ap (λ l. l ++ tail) m.1 ∙ in_front text tail m.0
+
+pub before_none : (text tail : List ℕ) (r : Option (Bor (List ℕ)))
+    → MatchOption r (bytes_eq (drop (length text - length tail) text) tail ≡ false)
+    (λ x. (bytes_eq (drop (length text - length tail) text) tail ≡ true) × (x.now ≡ take (length text - length tail) text) × (length x.now + length tail ≡ length text))
+    → IfNone r ((front : List ℕ) → front ++ tail ≡ text → ⊥)
+before_none text tail None m = not_in_front text tail m
+before_none text tail (Some x) m = tt

@@ -1,5 +1,6 @@
 -- A pool between two commands, and what a command does to it.
 use Rattle.std.specs.Prelude.{◌≡◌, ℕ, ◌+◌, ◌<◌, ◌≤◌, not, ◌&&◌, ◌||◌, Some, List, [], ◌∷◌, ◌++◌}
+use Rattle.zms_units.specs.Limits.{MAX_UNITS}
 use Rattle.zms_units.specs.declared.segments.Group.{Group}
 use Rattle.zms_units.specs.declared.faults.First.TheVariants.{Device as FirstDevice}
 use Rattle.zms_units.specs.Segments.{AreSegs}
@@ -11,7 +12,7 @@ use Rattle.ms_model.specs.Gates.{open_group}
 use Rattle.ms_model.specs.declared.notes.Act.TheVariants.{Collect, Settle}
 use Rattle.ms_model.specs.declared.notes.GateNote.TheVariants.{Closed, Settled}
 use Rattle.txg_gate.specs.Closings.{closings_of}
-use Rattle.zms_dev.specs.Causes.{Rose}
+use Rattle.zms_dev.specs.Causes.{one_more}
 use Rattle.zms_dev.specs.Disk.{DiskState, Tells, bytes_of}
 use Rattle.ms_model.specs.Events.{Event}
 use Rattle.ms_core.specs.State.{origin_of, settled_of, StaysButNotes}
@@ -24,7 +25,7 @@ use Rattle.zms_top.specs.declared.pool.Pool.{Pool}
 -- a pool's parts fit one another
 pub record IsPool (p : Pool) : Type 0 where
   pub least_units : 64 ≤ p.metaslab.units
-  pub most_units : p.metaslab.units ≤ 131072
+  pub most_units : p.metaslab.units ≤ MAX_UNITS
   pub shift : p.metaslab.ashift ≡ 12
   pub opened : p.gate.opened ≡ p.metaslab.opened
   pub base_is : p.base.items ≡ p.metaslab.base
@@ -33,10 +34,11 @@ pub record IsPool (p : Pool) : Type 0 where
   pub sound : IsSound (origin_of p.metaslab) p.metaslab.notes p.gate.notes (is_set p.record.bytes.items) p.first
 
 -- a command of a lane took a pool from one state to another, and what the lane did is as the command's line says
-pub record Acted (p q : Pool) (lane : ℕ) (line : List Event → Type 0) : Type 0 where
+pub record Acted (p q : Pool) (lane : ℕ) (line : List Event → List Event → Type 0) : Type 0 where
   pub events : List Event
-  pub tour : Tour lane events p.metaslab.notes q.metaslab.notes p.gate.notes q.gate.notes
-  pub line_is : line events
+  pub kept : List Event
+  pub tour : Tour lane events kept p.metaslab.notes q.metaslab.notes p.gate.notes q.gate.notes
+  pub line_is : line events kept
   pub pool : IsPool q
   pub stays : StaysButNotes p.metaslab q.metaslab
   pub rises : closings_of lane q.gate.notes ≤ closings_of lane p.gate.notes + 1
@@ -65,8 +67,8 @@ pub data IsCommitted (p q : Pool) (lane : ℕ) (group : Group) (faults_before fa
       → q.metaslab.notes ≡ p.metaslab.notes ++ (record { lane = lane; act = Settle group } ∷ [])
       → StaysButNotes p.metaslab q.metaslab → q.first ≡ p.first → q.base ≡ p.base
       → q.record.units ≡ p.record.units → ((u : ℕ) → is_set q.record.bytes.items u ≡ is_set p.record.bytes.items u)
-      → faults_before ≤ faults_now → IsCommitted p q lane group faults_before faults_now answer
-  failed : answer ≡ Device faults_before faults_now → Rose faults_before faults_now → faults_before ≤ faults_now
+      → faults_now ≡ faults_before → IsCommitted p q lane group faults_before faults_now answer
+  failed : answer ≡ Device faults_before faults_now → faults_now ≡ one_more faults_before
       → q.gate ≡ p.gate → q.metaslab ≡ p.metaslab → q.first ≡ Some (FirstDevice faults_before faults_now) → q.base ≡ p.base
       → q.record.units ≡ p.record.units → ((u : ℕ) → is_set q.record.bytes.items u ≡ is_set p.record.bytes.items u)
       → IsCommitted p q lane group faults_before faults_now answer

@@ -5,9 +5,9 @@ use Rattle.std.specs.Str.{bytes_eq}
 use Rattle.zms_units.specs.declared.blocks.Dva.{Dva}
 use Rattle.zms_units.specs.declared.faults.First.{First}
 use Rattle.zms_units.specs.declared.faults.First.TheVariants.{Device as FirstDevice}
-use Rattle.zms_top.specs.declared.script.Command.{Command}
-use Rattle.zms_top.specs.declared.script.What.{What}
-use Rattle.zms_top.specs.declared.script.What.TheVariants.{Alloc}
+use Rattle.cmd_text.specs.declared.script.Command.{Command}
+use Rattle.cmd_text.specs.declared.script.What.{What}
+use Rattle.cmd_text.specs.declared.script.What.TheVariants.{Alloc, Sync}
 use Rattle.zms_top.specs.declared.replies.Answer.{Answer}
 use Rattle.zms_top.specs.declared.replies.Answer.TheVariants.{Granted, NoSpace, BadSize, Done, NoName, NotLive, Device}
 use Rattle.zms_top.specs.declared.replies.Reply.{Reply}
@@ -29,6 +29,15 @@ first_with None _ = None
 -- the first fault that earlier replies name
 abbrev pub first_fault : List Replied → Option First
 first_fault done = fold (λ so_far r. first_with so_far r.reply.answer) None done
+
+-- the last group that a sync made lasting, once one more command has its answer
+abbrev pub synced_after : ℕ → What → Answer → ℕ
+synced_after so_far Sync (Done group) = group.0
+synced_after so_far _ _ = so_far
+
+-- the group of the last sync that was done, or the opened one
+abbrev pub last_synced : ℕ → List Replied → ℕ
+last_synced opened done = fold (λ so_far r. synced_after so_far r.command.what r.reply.answer) opened done
 
 -- the copies of the block of a name, once one more command has its answer: an alloc of this name that was granted gives
 -- them, and every other command leaves them

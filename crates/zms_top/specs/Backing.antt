@@ -1,6 +1,7 @@
 -- When the replies of a lane are backed by what it did: each command's part of the lane's events is as the table of
 -- replies says, and the events are all that the lane did in each journal.
-use Rattle.std.specs.Prelude.{◌≡◌, ℕ, ◌+◌, ◌*◌, ◌^◌, ◌<◌, ◌≤◌, ◌⊎◌, Bool, Option, Some, None, List, [], ◌∷◌, ◌++◌, slice_get}
+use Rattle.std.specs.Prelude.{◌≡◌, ℕ, ◌+◌, ◌*◌, ◌^◌, ◌<◌, ◌⊎◌, Bool, Option, Some, None, List, [], ◌∷◌, ◌++◌, slice_get}
+use Rattle.zms_units.specs.Limits.{IsBlockSize, MAX_BLOCK_SIZE}
 use Rattle.std.specs.List.{Contains}
 use Rattle.zms_units.specs.declared.segments.Seg.{Seg}
 use Rattle.zms_units.specs.declared.segments.Group.{Group}
@@ -10,8 +11,9 @@ use Rattle.zms_units.specs.declared.places.Class.TheVariants.{Normal}
 use Rattle.zms_units.specs.Rounding.{AreUnitsOf}
 use Rattle.ms_model.specs.Origin.{Origin}
 use Rattle.ms_model.specs.Units.{last_act}
-use Rattle.ms_model.specs.Legal.{IsWithin, IsGrantedBy}
-use Rattle.ms_model.specs.declared.notes.Act.TheVariants.{Grant, Free as FreeAct, Miss, Settle}
+use Rattle.ms_model.specs.Legal.{IsWithin, IsGrantedBy, IsLowestLacking}
+use Rattle.ms_model.specs.declared.notes.Act.TheVariants.{Grant, Free as FreeAct, Miss, Collect, Settle, Load}
+use Rattle.ms_model.specs.declared.notes.Act.{Act}
 use Rattle.ms_model.specs.declared.notes.Noted.{Noted}
 use Rattle.ms_model.specs.declared.notes.GateNote.{GateNote}
 use Rattle.ms_model.specs.declared.notes.GateNote.TheVariants.{Closed, Settled}
@@ -19,11 +21,10 @@ use Rattle.ms_model.specs.Steps.{look, noting, Follows}
 use Rattle.ms_model.specs.Parts.{right_of, gate_right}
 use Rattle.ms_model.specs.Gates.{open_group}
 use Rattle.ms_model.specs.Events.{Event, at_gate, at_metaslab, gate_steps, metaslab_steps}
-use Rattle.ms_core.specs.Asked.{IsLowestLacking}
-use Rattle.zms_dev.specs.Causes.{Rose}
+use Rattle.zms_dev.specs.Causes.{one_more}
 use Rattle.zms_top.specs.Answers.{Replied, first_fault, copies_named}
-use Rattle.zms_top.specs.declared.script.What.{What}
-use Rattle.zms_top.specs.declared.script.What.TheVariants.{Alloc, Free, Sync}
+use Rattle.cmd_text.specs.declared.script.What.{What}
+use Rattle.cmd_text.specs.declared.script.What.TheVariants.{Alloc, Free, Sync}
 use Rattle.zms_top.specs.declared.replies.Answer.{Answer}
 use Rattle.zms_top.specs.declared.replies.Answer.TheVariants.{Granted, NoSpace, BadSize, Done, NoName, NotLive, Device, Suspended}
 
@@ -91,15 +92,18 @@ pub record IsNoSpace (pool : Ground) (lane size looked : ℕ) (es : List Event) 
   pub missed : Missed lane count pool.metaslabs inner
   pub all : looked ≡ pool.metaslabs
 
--- a size that a block may have
-abbrev pub IsBlockSize : ℕ → Type 0
-IsBlockSize size = (0 < size) × (size ≤ 16777216)
+-- for the lane, free space of metaslabs was brought into memory, and nothing else was noted by the keeper
+abbrev pub AreLoads : ℕ → ℕ → List Event → Type 0
+AreLoads lane metaslabs [] = Unit {0}
+AreLoads lane metaslabs (at_metaslab at step ∷ kept) = (at < metaslabs) × ((step.note ≡ Some (record { lane = lane; act = Load })) × AreLoads lane metaslabs kept)
+AreLoads lane metaslabs (at_gate _ ∷ kept) = ⊥
 
-abbrev pub AllocLine : Ground → ℕ → ℕ → Answer → List Event → Type 0
-AllocLine pool lane size (Granted group copies) es = IsBlockSize size × IsGranted pool lane size group copies es
-AllocLine pool lane size (NoSpace looked) es = IsBlockSize size × IsNoSpace pool lane size looked es
-AllocLine pool lane size BadSize es = ((size ≡ 0) ⊎ (16777216 < size)) × (es ≡ [])
-AllocLine pool lane size _ es = ⊥
+-- `es` are the lane's events, and `kept` those of the keeper for it
+abbrev pub AllocLine : Ground → ℕ → ℕ → Answer → List Event → List Event → Type 0
+AllocLine pool lane size (Granted group copies) es kept = IsBlockSize size × (IsGranted pool lane size group copies es × AreLoads lane pool.metaslabs kept)
+AllocLine pool lane size (NoSpace looked) es kept = IsBlockSize size × (IsNoSpace pool lane size looked es × AreLoads lane pool.metaslabs kept)
+AllocLine pool lane size BadSize es kept = ((size ≡ 0) ⊎ (MAX_BLOCK_SIZE < size)) × ((es ≡ []) × (kept ≡ []))
+AllocLine pool lane size _ es kept = ⊥
 
 -- each of these copies was freed in the group, in order
 pub data Freed (pool : Ground) (lane : ℕ) (group : Group) : List Dva → List Event → Type 0 where
@@ -137,11 +141,17 @@ pub record IsNotLive (pool : Ground) (lane : ℕ) (copies : List Dva) (vdev offs
   pub whole : inner ≡ frees ++ (at_metaslab at (look before) ∷ [])
 
 -- a free gives back what the lane was granted under the name, and nothing else; `noname` comes where there is no such grant
-abbrev pub FreeLine : Ground → ℕ → Option (List Dva) → Answer → List Event → Type 0
-FreeLine pool lane (Some copies) (Done group) es = IsFreed pool lane group copies es
-FreeLine pool lane (Some copies) (NotLive vdev offset) es = IsNotLive pool lane copies vdev offset es
-FreeLine pool lane None NoName es = es ≡ []
-FreeLine pool lane _ _ es = ⊥
+abbrev pub FreeLine : Ground → ℕ → Option (List Dva) → Answer → List Event → List Event → Type 0
+FreeLine pool lane (Some copies) (Done group) es kept = IsFreed pool lane group copies es × AreLoads lane pool.metaslabs kept
+FreeLine pool lane (Some copies) (NotLive vdev offset) es kept = IsNotLive pool lane copies vdev offset es × AreLoads lane pool.metaslabs kept
+FreeLine pool lane None NoName es kept = (es ≡ []) × (kept ≡ [])
+FreeLine pool lane _ _ es kept = ⊥
+
+-- the keeper noted this act for the lane at each of the metaslabs below a place, in order, and nothing else
+pub data NotedAtEach (lane : ℕ) (act : Act) : ℕ → List Event → Type 0 where
+  none : NotedAtEach lane act 0 []
+  more : (at : ℕ) (kept : List Event) (before : List Noted) → NotedAtEach lane act at kept
+      → NotedAtEach lane act (at + 1) (kept ++ (at_metaslab at (noting before (record { lane = lane; act = act })) ∷ []))
 
 -- the metaslabs below a place were seen in order, each when it had settled the group
 pub data SeenSettled (group : Group) : ℕ → List Event → Type 0 where
@@ -150,8 +160,15 @@ pub data SeenSettled (group : Group) : ℕ → List Event → Type 0 where
       → Contains before (record { lane = by; act = Settle group })
       → SeenSettled group (at + 1) (es ++ (at_metaslab at (look before) ∷ []))
 
--- `done`: the lane closed the open group, and at return the gate and each metaslab had settled it
-pub record IsSynced (pool : Ground) (lane : ℕ) (group : Group) (es : List Event) : Type 0 where
+-- `done`: the lane closed the open group, the keeper collected it at each metaslab and then settled it there and at the
+-- gate, and at return the gate and each metaslab had settled it
+pub record IsSynced (pool : Ground) (lane : ℕ) (group : Group) (es kept : List Event) : Type 0 where
+  pub collects : List Event
+  pub collected : NotedAtEach lane (Collect group) pool.metaslabs collects
+  pub settles : List Event
+  pub settled_each : NotedAtEach lane (Settle group) pool.metaslabs settles
+  pub gate_before : List GateNote
+  pub kept_is : kept ≡ collects ++ (settles ++ (at_gate (noting gate_before (Settled group)) ∷ []))
   pub before : List GateNote
   pub is_open : group.0 ≡ open_group pool.opened before
   pub seen : List Event
@@ -160,46 +177,55 @@ pub record IsSynced (pool : Ground) (lane : ℕ) (group : Group) (es : List Even
   pub gate_settled : Contains after (Settled group)
   pub whole : es ≡ at_gate (noting before (Closed lane group)) ∷ (seen ++ (at_gate (look after) ∷ []))
 
--- `device`: the lane closed the open group, and the device failed
-pub record IsFailed (pool : Ground) (lane low high : ℕ) (es : List Event) : Type 0 where
+-- `device`: the lane closed the open group, the keeper collected it at each metaslab, and the device failed
+pub record IsFailed (pool : Ground) (lane low high : ℕ) (es kept : List Event) : Type 0 where
   pub before : List GateNote
   pub group : Group
+  pub collected : NotedAtEach lane (Collect group) pool.metaslabs kept
   pub is_open : group.0 ≡ open_group pool.opened before
-  pub rose : Rose low high
+  pub once : high ≡ one_more low
   pub whole : es ≡ at_gate (noting before (Closed lane group)) ∷ []
 
 -- a sync goes on only while no fault is kept; from then on each answers the first one
-abbrev pub SyncLine : Ground → ℕ → Option First → Answer → List Event → Type 0
-SyncLine pool lane None (Done group) es = IsSynced pool lane group es
-SyncLine pool lane None (Device low high) es = IsFailed pool lane low high es
-SyncLine pool lane (Some first) (Suspended kept) es = (kept ≡ first) × (es ≡ [])
-SyncLine pool lane _ _ es = ⊥
+abbrev pub SyncLine : Ground → ℕ → Option First → Answer → List Event → List Event → Type 0
+SyncLine pool lane None (Done group) es kept = IsSynced pool lane group es kept
+SyncLine pool lane None (Device low high) es kept = IsFailed pool lane low high es kept
+SyncLine pool lane (Some first) (Suspended told) es kept = (told ≡ first) × ((es ≡ []) × (kept ≡ []))
+SyncLine pool lane _ _ es kept = ⊥
 
 -- the line of one command, behind the replies of the commands before it
-abbrev pub WhatLine : Ground → ℕ → List Replied → What → Answer → List Event → Type 0
-WhatLine pool lane done (Alloc _ size _ _) answer es = AllocLine pool lane size answer es
-WhatLine pool lane done (Free name) answer es = FreeLine pool lane (copies_named name done) answer es
-WhatLine pool lane done Sync answer es = SyncLine pool lane (first_fault done) answer es
+abbrev pub WhatLine : Ground → ℕ → List Replied → What → Answer → List Event → List Event → Type 0
+WhatLine pool lane done (Alloc _ size _ _) answer es kept = AllocLine pool lane size answer es kept
+WhatLine pool lane done (Free name) answer es kept = FreeLine pool lane (copies_named name done) answer es kept
+WhatLine pool lane done Sync answer es kept = SyncLine pool lane (first_fault done) answer es kept
+WhatLine pool lane done _ answer es kept = ⊥
 
-pub record Line (pool : Ground) (done : List Replied) (r : Replied) (es : List Event) : Type 0 where
+pub record Line (pool : Ground) (done : List Replied) (r : Replied) (es kept : List Event) : Type 0 where
   pub lane : r.reply.lane ≡ r.command.lane
-  pub what : WhatLine pool r.command.lane done r.command.what r.reply.answer es
+  pub what : WhatLine pool r.command.lane done r.command.what r.reply.answer es kept
 
 -- the lines of all commands, one behind the other
-pub data Lines (pool : Ground) : List Replied → List Event → Type 0 where
-  none : Lines pool [] []
-  more : (done : List Replied) (es : List Event) (r : Replied) (es_of : List Event)
-      → Lines pool done es → Line pool done r es_of → Lines pool (done ++ (r ∷ [])) (es ++ es_of)
+pub data Lines (pool : Ground) : List Replied → List Event → List Event → Type 0 where
+  none : Lines pool [] [] []
+  more : (done : List Replied) (es kept : List Event) (r : Replied) (es_of kept_of : List Event)
+      → Lines pool done es kept → Line pool done r es_of kept_of → Lines pool (done ++ (r ∷ [])) (es ++ es_of) (kept ++ kept_of)
 
--- the intervals of `device` replies lie one behind the other, between the device's counts at two moments
+-- the intervals of `device` replies join end to end from the device's count at one moment to that at another, and each is
+-- of one fault; so nothing else raised the count
 abbrev pub AreIntervals : ℕ → ℕ → List Answer → Type 0
-AreIntervals low high [] = low ≤ high
-AreIntervals low high (Device before after ∷ rest) = (low ≤ before) × (Rose before after × AreIntervals after high rest)
+AreIntervals low high [] = high ≡ low
+AreIntervals low high (Device before after ∷ rest) = (before ≡ low) × ((after ≡ one_more low) × AreIntervals after high rest)
 AreIntervals low high (_ ∷ rest) = AreIntervals low high rest
 
--- a lane's replies are backed by the journals of the gate and of the metaslabs, in the pool's order
-pub record AreBacked (pool : Ground) (lane : ℕ) (done : List Replied) (gate : List GateNote) (metaslabs : List (List Noted)) : Type 0 where
+-- a lane's replies are backed by the journals of the gate and of the metaslabs, in the pool's order; `kept` are the events
+-- of the keeper for it
+pub record AreBacked (pool : Ground) (lane : ℕ) (done : List Replied) (kept : List Event) (gate : List GateNote) (metaslabs : List (List Noted)) : Type 0 where
   pub events : List Event
-  pub lines : Lines pool done events
+  pub lines : Lines pool done events kept
   pub at_the_gate : Follows gate_right lane [] (gate_steps events) gate
   pub each : (k : ℕ) (h : List Noted) → slice_get metaslabs k ≡ Some h → Follows right_of lane [] (metaslab_steps k events) h
+
+-- the keeper's notes in each journal are these, in order, and no others
+pub record AreKept (kept : List Event) (gate : List GateNote) (metaslabs : List (List Noted)) : Type 0 where
+  pub at_the_gate : Follows gate_right 0 [] (gate_steps kept) gate
+  pub each : (k : ℕ) (h : List Noted) → slice_get metaslabs k ≡ Some h → Follows right_of 0 [] (metaslab_steps k kept) h

@@ -3,11 +3,12 @@ use Rattle.std.specs.Prelude.{◌≡◌, ℕ, ◌⊎◌, Option, IsSome, List}
 use Rattle.zms_units.specs.declared.segments.Group.{Group}
 use Rattle.zms_dev.specs.Causes.{Rose}
 use Rattle.zms_dev.specs.Disk.{DiskState, Tells, bytes_of}
+use Rattle.zms_top.specs.World.{World}
 use Rattle.zms_top.specs.Words.{Asks, AsksNothing}
 use Rattle.zms_top.specs.Script.{IsFile, IsFirstBad}
 use Rattle.zms_top.specs.Record.{HasRecord, HasNoRecord}
 use Rattle.zms_top.specs.Ends.{text_of}
-use Rattle.zms_top.specs.declared.script.Command.{Command}
+use Rattle.cmd_text.specs.declared.script.Command.{Command}
 use Rattle.zms_top.specs.declared.words.Asked.TheVariants.{Create, Run}
 use Rattle.zms_top.specs.declared.status.Status.{Status}
 use Rattle.zms_top.specs.declared.status.Status.TheVariants.{Done, Usage, BadText, ReadFault, WriteFault, DeviceFault, NotAPool, Memory}
@@ -27,55 +28,53 @@ abbrev pub HasNoPool : DiskState → Type 0
 HasNoPool start = Tells start → HasNoRecord (bytes_of start)
 
 -- why a call ends with its status
-pub data Cause (words : List (List ℕ)) (left : Option (List ℕ)) (source_low source_high sink_low sink_high trace_low trace_high : ℕ) (start : DiskState) (low high : ℕ) : Status → Type 0 where
+pub data Cause (words : List (List ℕ)) (old new : World) : Status → Type 0 where
   -- the words are outside the grammar
-  usage : AsksNothing words → Cause words left source_low source_high sink_low sink_high trace_low trace_high start low high Usage
+  usage : AsksNothing words → Cause words old new Usage
   -- the source failed
-  read_fault : Asks words Run → Rose source_low source_high → Cause words left source_low source_high sink_low sink_high trace_low trace_high start low high ReadFault
+  read_fault : Asks words Run → Rose old.input.faults new.input.faults → Cause words old new ReadFault
   -- a line of the text is bad, and none before it
-  bad_text : Asks words Run → (line : ℕ) → (IsSome left → IsFirstBad (text_of left) line)
-      → Cause words left source_low source_high sink_low sink_high trace_low trace_high start low high (BadText line)
+  bad_text : Asks words Run → (line : ℕ) → (IsSome old.input.left → IsFirstBad (text_of old.input.left) line) → Cause words old new (BadText line)
   -- the device failed
-  device_fault : Rose low high → Cause words left source_low source_high sink_low sink_high trace_low trace_high start low high DeviceFault
+  device_fault : Rose old.faults new.faults → Cause words old new DeviceFault
   -- the sink failed
-  write_fault : Rose sink_low sink_high → Cause words left source_low source_high sink_low sink_high trace_low trace_high start low high WriteFault
+  write_fault : Rose old.out.faults new.out.faults → Cause words old new WriteFault
   -- the trace's sink failed
-  trace_fault : Asks words Run → Rose trace_low trace_high → Cause words left source_low source_high sink_low sink_high trace_low trace_high start low high WriteFault
+  trace_fault : Asks words Run → Rose old.trace.faults new.trace.faults → Cause words old new WriteFault
   -- a run over a device without a pool
-  no_slot : Asks words Run → HasFile left → HasNoPool start → Cause words left source_low source_high sink_low sink_high trace_low trace_high start low high (NotAPool (Open NoSlot))
+  no_slot : Asks words Run → HasFile old.input.left → HasNoPool old.disk → Cause words old new (NotAPool (Open NoSlot))
   -- a creation over a device with a pool
-  already : (units : ℕ) → Asks words (Create units) → (group : Group) → HasPool start group.0
-      → Cause words left source_low source_high sink_low sink_high trace_low trace_high start low high (NotAPool (AlreadyPool group))
+  already : (units : ℕ) → Asks words (Create units) → (group : Group) → HasPool old.disk group.0 → Cause words old new (NotAPool (AlreadyPool group))
   -- a run to its end
-  ran : Asks words Run → HasFile left → (group : ℕ) → HasPool start group → Cause words left source_low source_high sink_low sink_high trace_low trace_high start low high Done
+  ran : Asks words Run → HasFile old.input.left → (group : ℕ) → HasPool old.disk group → Cause words old new Done
   -- a pool that was created
-  created : (units : ℕ) → Asks words (Create units) → HasNoPool start → Cause words left source_low source_high sink_low sink_high trace_low trace_high start low high Done
+  created : (units : ℕ) → Asks words (Create units) → HasNoPool old.disk → Cause words old new Done
   -- want of memory, of which nothing is said
-  memory : Cause words left source_low source_high sink_low sink_high trace_low trace_high start low high Memory
+  memory : Cause words old new Memory
 
 -- a run that nothing stands in the way of: a told file of commands, a device that tells and has a pool, and no fault
-pub record IsHonestRun (words : List (List ℕ)) (left : Option (List ℕ)) (source_low source_high sink_low sink_high trace_low trace_high : ℕ) (start : DiskState) (low high : ℕ) : Type 0 where
+pub record IsHonestRun (words : List (List ℕ)) (old new : World) : Type 0 where
   pub asks : Asks words Run
-  pub told_text : IsSome left
+  pub told_text : IsSome old.input.left
   pub commands : List Command
-  pub file : IsFile (text_of left) commands
-  pub tells : Tells start
+  pub file : IsFile (text_of old.input.left) commands
+  pub tells : Tells old.disk
   pub group : ℕ
   pub units : ℕ
-  pub has : HasRecord (bytes_of start) group units
-  pub source : Rose source_low source_high → ⊥
-  pub sink : Rose sink_low sink_high → ⊥
-  pub trace : Rose trace_low trace_high → ⊥
-  pub device : Rose low high → ⊥
+  pub has : HasRecord (bytes_of old.disk) group units
+  pub source : Rose old.input.faults new.input.faults → ⊥
+  pub sink : Rose old.out.faults new.out.faults → ⊥
+  pub trace : Rose old.trace.faults new.trace.faults → ⊥
+  pub device : Rose old.faults new.faults → ⊥
 
 -- a creation that nothing stands in the way of: a device that tells and has no pool, and no fault
-pub record IsHonestCreate (words : List (List ℕ)) (sink_low sink_high : ℕ) (start : DiskState) (low high : ℕ) : Type 0 where
+pub record IsHonestCreate (words : List (List ℕ)) (old new : World) : Type 0 where
   pub units : ℕ
   pub asks : Asks words (Create units)
-  pub tells : Tells start
-  pub none : HasNoRecord (bytes_of start)
-  pub sink : Rose sink_low sink_high → ⊥
-  pub device : Rose low high → ⊥
+  pub tells : Tells old.disk
+  pub none : HasNoRecord (bytes_of old.disk)
+  pub sink : Rose old.out.faults new.out.faults → ⊥
+  pub device : Rose old.faults new.faults → ⊥
 
 -- the call did what it was asked for, or memory ran out
 abbrev pub IsDone : Status → Type 0

@@ -3,10 +3,10 @@ pub mod Script
 pub mod Answers
 pub mod Texts
 pub mod Record
-pub mod Reporting
+pub mod World
+pub mod Writes
 pub mod Backing
 pub mod Naming
-pub mod Reading
 pub mod Sound
 pub mod Pooling
 pub mod Acting

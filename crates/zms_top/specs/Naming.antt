@@ -9,7 +9,7 @@ use Rattle.zms_units.specs.declared.segments.Seg.{Seg}
 use Rattle.ms_model.specs.Legal.{IsWithin}
 use Rattle.zms_top.specs.Answers.{Replied, copies_after, copies_named}
 use Rattle.zms_top.specs.Backing.{Ground, dva_at}
-use Rattle.zms_top.specs.declared.script.What.{What}
+use Rattle.cmd_text.specs.declared.script.What.{What}
 use Rattle.zms_top.specs.declared.replies.Answer.{Answer}
 
 -- the segments of a lane's blocks by their names, as the code keeps them

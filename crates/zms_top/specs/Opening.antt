@@ -1,5 +1,6 @@
 -- A pool as it was just opened.
-use Rattle.std.specs.Prelude.{◌≡◌, ◌^◌, ◌<◌, None, [], ℕ}
+use Rattle.std.specs.Prelude.{◌≡◌, ◌<◌, None, [], ℕ}
+use Rattle.zms_units.specs.Limits.{GROUPS_END}
 use Rattle.zms_units.specs.Segments.{covered}
 use Rattle.ms_core.specs.State.{origin_of}
 use Rattle.zms_dev.specs.Disk.{DiskState}
@@ -16,7 +17,7 @@ pub record IsFresh (p : Pool) : Type 0 where
   pub gate : p.gate.notes ≡ []
   pub first : p.first ≡ None
   pub id : p.metaslab.id ≡ record { vdev = 0; index = 0 }
-  pub small : p.metaslab.opened < 2 ^ 49
+  pub small : p.metaslab.opened < GROUPS_END
 
 -- and its base is what the device's record holds
 pub record IsOpened (start : DiskState) (p : Pool) : Type 0 where

@@ -4,8 +4,7 @@ use Rattle.zms_units.specs.declared.segments.Seg.{Seg}
 use Rattle.zms_units.specs.declared.segments.Group.{Group}
 use Rattle.ms_model.specs.Origin.{Origin}
 use Rattle.ms_model.specs.Units.{last_act}
-use Rattle.ms_model.specs.Legal.{MayDo, MayFree, IsGrantedBy}
-use Rattle.ms_core.specs.Asked.{IsLowestLacking}
+use Rattle.ms_model.specs.Legal.{MayDo, MayFree, IsGrantedBy, IsLowestLacking}
 use Rattle.ms_model.specs.declared.notes.Act.{Act}
 use Rattle.ms_model.specs.declared.notes.Act.TheVariants.{Grant, Free, Miss}
 use Rattle.ms_model.specs.declared.notes.Noted.{Noted}

@@ -1,5 +1,6 @@
 -- The first record: what stands at the front of the pool device.
 use Rattle.std.specs.Prelude.{◌≡◌, ℕ, ◌+◌, ◌*◌, ◌/◌, ◌%◌, ◌^◌, ◌<◌, ◌≤◌, Bool, false, ◌==◌, List, [], ◌∷◌, codes}
+use Rattle.zms_units.specs.Limits.{GROUPS_END, MAX_UNITS}
 use Rattle.std.specs.Int.{from_le_bytes, w32, w64}
 use Rattle.zms_dev.specs.Bytes.{byte, part}
 
@@ -19,9 +20,9 @@ pub record IsRecord (image : List ℕ) (group units : ℕ) : Type 0 where
 pub record HasRecord (image : List ℕ) (group units : ℕ) : Type 0 where
   pub is : IsRecord image group units
   pub least_group : 4 ≤ group
-  pub last_group : group < 2 ^ 49
+  pub last_group : group < GROUPS_END
   pub least_units : 64 ≤ units
-  pub most_units : units ≤ 131072
+  pub most_units : units ≤ MAX_UNITS
 
 -- it has none
 abbrev pub HasNoRecord : List ℕ → Type 0
@@ -49,4 +50,4 @@ pub record IsReadFrom (image : List ℕ) (group units : ℕ) (bytes : List ℕ) 
 -- a group that a record may name
 pub record IsGroup (group : ℕ) : Type 0 where
   pub least : 4 ≤ group
-  pub last : group < 2 ^ 49
+  pub last : group < GROUPS_END

@@ -2,8 +2,8 @@
 use Rattle.std.specs.Prelude.{◌≡◌, ◌+◌, ◌≤◌, List, map, length}
 use Rattle.txg_gate.specs.Closings.{closings_of}
 use Rattle.ms_model.specs.Events.{Event}
-use Rattle.ms_core.specs.State.{origin_of, StaysButNotes}
-use Rattle.zms_top.specs.Answers.{Replied, first_fault}
+use Rattle.ms_core.specs.State.{origin_of, settled_of, StaysButNotes}
+use Rattle.zms_top.specs.Answers.{Replied, first_fault, last_synced}
 use Rattle.zms_top.specs.Backing.{Lines}
 use Rattle.zms_top.specs.Sound.{Tour, ground_of}
 use Rattle.zms_top.specs.Acting.{IsPool}
@@ -17,9 +17,11 @@ answers_of replies = map (λ r. r.answer) replies
 -- lane 1 took a pool from one state to another by these commands, with these replies
 pub record HasRun (p q : Pool) (done : List Replied) : Type 0 where
   pub events : List Event
-  pub tour : Tour 1 events p.metaslab.notes q.metaslab.notes p.gate.notes q.gate.notes
-  pub lines : Lines (ground_of (origin_of p.metaslab)) done events
+  pub kept : List Event
+  pub tour : Tour 1 events kept p.metaslab.notes q.metaslab.notes p.gate.notes q.gate.notes
+  pub lines : Lines (ground_of (origin_of p.metaslab)) done events kept
   pub pool : IsPool q
   pub stays : StaysButNotes p.metaslab q.metaslab
   pub rises : closings_of 1 q.gate.notes ≤ closings_of 1 p.gate.notes + length done
   pub fault : first_fault done ≡ q.first
+  pub synced : settled_of q.metaslab ≡ last_synced (settled_of p.metaslab) done

@@ -1,5 +1,5 @@
 -- What is handed over and printed when the lanes are done.
-use Rattle.std.specs.Prelude.{◌≡◌, ℕ, Option, Some, Result, List, [], ◌∷◌, replicate}
+use Rattle.std.specs.Prelude.{◌≡◌, Option, Some, Result, List, [], ◌∷◌, replicate}
 use Rattle.zms_units.specs.Segments.{covered}
 use Rattle.zms_units.specs.declared.segments.Group.{Group}
 use Rattle.zms_units.specs.declared.places.Class.TheVariants.{Normal}
@@ -12,14 +12,12 @@ use Rattle.ms_model.specs.declared.journals.Journals.{Journals}
 use Rattle.ms_core.specs.State.{origin_of, settled_of}
 use Rattle.zms_dev.specs.declared.failed.Failed.{Failed}
 use Rattle.zms_top.specs.Answers.{Replied}
-use Rattle.zms_top.specs.Reporting.{SinkState, PrintsTo, WritesBoth}
+use Rattle.zms_dev.specs.Prints.{Prints}
+use Rattle.zms_dev.specs.Stream.{SinkState}
+use Rattle.zms_top.specs.Writes.{WritesBoth}
 use Rattle.trace_text.specs.Traces.{metaslab_trace_text}
 use Rattle.zms_top.specs.Texts.{run_text}
-use Rattle.ms_model.specs.Origin.{Origin}
-use Rattle.zms_dev.specs.Disk.{DiskState}
-use Rattle.zms_top.specs.Ends.{any_device, end_status, AreShipped, LanesDid}
-use Rattle.zms_top.specs.declared.script.Command.{Command}
-use Rattle.zms_top.specs.declared.status.Status.TheVariants.{Memory}
+use Rattle.zms_top.specs.Ends.{any_device, end_status}
 use Rattle.zms_top.specs.declared.pool.Pool.{Pool}
 use Rattle.zms_top.specs.declared.tally.Tally.{Tally}
 use Rattle.zms_top.specs.declared.replies.Reply.{Reply}
@@ -59,7 +57,7 @@ pub record IsPrinted (p : Pool) (done : List Replied) (out out_now : SinkState) 
   pub tally_is : IsTally p tally
   pub group : Group
   pub group_is : group.0 ≡ settled_of p.metaslab
-  pub prints : PrintsTo out out_now (run_text done (tally ∷ []) group.0) printed
+  pub prints : Prints out out_now (run_text done (tally ∷ []) group.0) printed
 
 -- lanes that ran to their end are reported: their journals and lists are handed over, the texts are written, and the status
 -- says how the lanes ended
@@ -84,13 +82,3 @@ pub record HasHandedOver (p : Pool) (replies : List Reply) (journals : Option Jo
   pub journals_are : journals ≡ Some some_journals
   pub lists_are : lists ≡ Some some_lists
   pub handed : HandsOver p replies some_journals some_lists
-
--- lanes that began either met want of memory or ran to their end
-pub data LanesEnd (o : Origin) (commands : List Command) (out out_now trace trace_now : SinkState) (start now : DiskState) (low high : ℕ)
-    (status : Status) (journals : Option Journals) (lists : Option RunLists) : Type 0 where
-  cut_off : (journal : MsJournal) (j : Journals) (l : RunLists) → AreShipped o j l journal → l.replies ≡ [] → status ≡ Memory → out_now ≡ out → trace_now ≡ trace
-      → journals ≡ Some j → lists ≡ Some l
-      → LanesEnd o commands out out_now trace trace_now start now low high status journals lists
-  ran : (journal : MsJournal) (j : Journals) (l : RunLists) → AreShipped o j l journal
-      → LanesDid commands out out_now trace trace_now start now low high o journal j l status → journals ≡ Some j → lists ≡ Some l
-      → LanesEnd o commands out out_now trace trace_now start now low high status journals lists

@@ -36,10 +36,12 @@ pub record OthersRest (lane : ℕ) (h j : List Noted) (g k : List GateNote) : Ty
   pub metaslab : (other : ℕ) → 1 ≤ other → other ≢ lane → Quiet right_of other h j
   pub gate : (other : ℕ) → 1 ≤ other → other ≢ lane → Quiet gate_right other g k
 
--- what a lane did between two states of the journals, while the others rested
-pub record Tour (lane : ℕ) (es : List Event) (h j : List Noted) (g k : List GateNote) : Type 0 where
+-- what a lane did between two states of the journals, and what the keeper did for it, while the others rested
+pub record Tour (lane : ℕ) (es kept : List Event) (h j : List Noted) (g k : List GateNote) : Type 0 where
   pub metaslab : Follows right_of lane h (metaslab_steps 0 es) j
   pub gate : Follows gate_right lane g (gate_steps es) k
+  pub keeper : Follows right_of 0 h (metaslab_steps 0 kept) j
+  pub keeper_gate : Follows gate_right 0 g (gate_steps kept) k
   pub others : OthersRest lane h j g k
 
 -- free space was brought into memory, or was there already

@@ -1,7 +1,5 @@
 -- What the program shows of a status: its text, and its exit status.
 use Rattle.std.specs.Prelude.{ℕ, List, ◌++◌, codes, decimal}
-use Rattle.zms_top.specs.declared.script.TextFault.{TextFault}
-use Rattle.zms_top.specs.declared.script.TextFault.TheVariants.{Bad, Memory as NoMemory}
 use Rattle.zms_top.specs.declared.status.Status.{Status}
 use Rattle.zms_top.specs.declared.status.Status.TheVariants.{Done, Usage, BadText, ReadFault, WriteFault, DeviceFault, NotAPool, Memory, Found}
 use Rattle.zms_top.specs.declared.status.PoolCause.{PoolCause}
@@ -35,8 +33,3 @@ exit_status DeviceFault = 5
 exit_status (NotAPool _) = 6
 exit_status Memory = 7
 exit_status (Found _) = 8
-
--- why a command file is refused, in words
-abbrev pub fault_text : TextFault → List ℕ
-fault_text (Bad line) = codes "line " ++ (decimal line ++ codes " is not a command within the limits")
-fault_text NoMemory = codes "out of memory"

@@ -1,22 +1,18 @@
 -- The text of replies and totals, as functions of commands, replies and counts.
 use Rattle.std.specs.Prelude.{ℕ, ◌*◌, ◌^◌, ◌<◌, Bool, true, false, if◌then◌else◌, Option, Some, None, List, [], ◌∷◌, ◌++◌, codes, decimal}
 use Rattle.std.specs.List.{flat_map, sum_by, list_any}
-use Rattle.zms_units.specs.declared.blocks.Dva.{Dva}
 use Rattle.zms_units.specs.declared.faults.First.{First}
 use Rattle.zms_units.specs.declared.faults.First.TheVariants.{Device as FirstDevice, Damaged as FirstDamaged}
 use Rattle.zms_units.specs.declared.places.Class.{Class}
 use Rattle.zms_units.specs.declared.places.Class.TheVariants.{Normal, Log, Special, Dedup}
-use Rattle.zms_top.specs.Script.{class_text}
+use Rattle.zms_units.specs.Classes.{class_word}
+use Rattle.trace_text.specs.Places.{copy_text}
 use Rattle.zms_top.specs.Answers.{Replied}
-use Rattle.zms_top.specs.declared.script.What.{What}
-use Rattle.zms_top.specs.declared.script.What.TheVariants.{Alloc, Free, Sync}
+use Rattle.cmd_text.specs.declared.script.What.{What}
+use Rattle.cmd_text.specs.declared.script.What.TheVariants.{Alloc, Free, FreeSeg, Sync, Load, Unload, Init, Trim, AutoTrim}
 use Rattle.zms_top.specs.declared.tally.Tally.{Tally}
 use Rattle.zms_top.specs.declared.replies.Answer.{Answer}
 use Rattle.zms_top.specs.declared.replies.Answer.TheVariants.{Granted, NoSpace, BadSize, Done, NoName, NotLive, Device, Suspended}
-
--- ` CLASS V:OFFSET:SIZE`
-abbrev pub copy_text : Dva → List ℕ
-copy_text dva = 32 ∷ (class_text dva.class ++ (32 ∷ (decimal dva.vdev ++ (58 ∷ (decimal dva.offset ++ (58 ∷ decimal dva.size))))))
 
 abbrev pub first_text : First → List ℕ
 first_text (FirstDevice before after) = decimal before ++ (32 ∷ decimal after)
@@ -36,7 +32,13 @@ answer_text (Suspended first) = codes "suspended " ++ first_text first
 abbrev pub head_text : What → List ℕ
 head_text (Alloc name _ _ _) = codes "alloc " ++ name
 head_text (Free name) = codes "free " ++ name
+head_text (FreeSeg vdev offset size) = codes "freeseg " ++ (decimal vdev ++ (32 ∷ (decimal offset ++ (32 ∷ decimal size))))
 head_text Sync = codes "sync"
+head_text (Load vdev index) = codes "load " ++ (decimal vdev ++ (32 ∷ decimal index))
+head_text (Unload vdev index) = codes "unload " ++ (decimal vdev ++ (32 ∷ decimal index))
+head_text (Init vdev) = codes "init " ++ decimal vdev
+head_text (Trim vdev) = codes "trim " ++ decimal vdev
+head_text (AutoTrim vdev) = codes "autotrim " ++ decimal vdev
 
 -- a line of out
 abbrev pub reply_text : Replied → List ℕ
@@ -83,7 +85,7 @@ sums_text asked ts = counts_text (sum_by (if_asked asked live_bytes) ts) (sum_by
 abbrev pub class_line : List Tally → Class → List ℕ
 class_line ts class =
     if list_any (λ t. same_class class t.class) ts
-    then codes "class " ++ (class_text class ++ sums_text (Some class) ts)
+    then codes "class " ++ (class_word class ++ sums_text (Some class) ts)
     else []
 
 abbrev pub metaslab_lines : List Tally → List ℕ

@@ -1,14 +1,10 @@
 -- The words of the command line. Each form is what its words are; reading them is the inverse.
-use Rattle.std.specs.Prelude.{◌≡◌, ℕ, ◌<◌, ◌≤◌, Bool, ◌==◌, ◌&&◌, ◌||◌, nat_le, List, [], ◌∷◌, ◌++◌, length, IsTrue, codes, decimal, slice_get, Some}
+use Rattle.std.specs.Prelude.{◌≡◌, ℕ, ◌<◌, ◌≤◌, Bool, ◌==◌, ◌||◌, List, [], ◌∷◌, ◌++◌, length, IsTrue, codes, decimal, slice_get, Some}
+use Rattle.zms_units.specs.Limits.{IsUnitCount}
 use Rattle.std.specs.List.{list_all}
+use Rattle.cmd_text.specs.Words.{is_lowercase, is_digit}
 use Rattle.zms_top.specs.declared.words.Asked.{Asked}
 use Rattle.zms_top.specs.declared.words.Asked.TheVariants.{Create, Run}
-
-abbrev pub is_lowercase : ℕ → Bool
-is_lowercase b = nat_le 97 b && nat_le b 122
-
-abbrev pub is_digit : ℕ → Bool
-is_digit b = nat_le 48 b && nat_le b 57
 
 -- a to z, 0 to 9, `_`, `.` and `/`
 abbrev pub is_pool_byte : ℕ → Bool
@@ -26,7 +22,7 @@ spec_text units = codes "normal:12:" ++ (decimal units ++ codes ":1")
 
 -- what the words ask for of the pool of a name
 abbrev pub AsksOf : List ℕ → List (List ℕ) → Asked → Type 0
-AsksOf pool words (Create units) = (words ≡ codes "create" ∷ pool ∷ spec_text units ∷ []) × ((64 ≤ units) × (units ≤ 131072))
+AsksOf pool words (Create units) = (words ≡ codes "create" ∷ pool ∷ spec_text units ∷ []) × (IsUnitCount units)
 AsksOf pool words Run = words ≡ codes "run" ∷ pool ∷ []
 
 -- the words ask for this

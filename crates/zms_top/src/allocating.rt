@@ -1,10 +1,11 @@
 //! The command `alloc`.
 
 ghost use Rattle.std.specs.Prelude.{◌≡◌, ℕ, ◌+◌, ◌^◌, ◌<◌, ◌≤◌, [], ◌∷◌, IfOk};
+ghost use Rattle.zms_units.specs.Limits.{IsLane};
 ghost use Rattle.ms_model.specs.Gates.{open_group};
 ghost use Rattle.ms_core.specs.State.{origin_of, StaysButNotes};
 ghost use Rattle.zms_top.specs.Answers.{IsOfAlloc};
-ghost use Rattle.zms_top.specs.declared.script.What.TheVariants.{Alloc as AllocOf};
+ghost use Rattle.cmd_text.specs.declared.script.What.TheVariants.{Alloc as AllocOf};
 ghost use Rattle.zms_units.specs.declared.places.Class.{Class};
 ghost use Rattle.zms_top.specs.Backing.{Ground, AllocLine, dva_at};
 ghost use Rattle.zms_top.specs.Naming.{Learns};
@@ -17,7 +18,7 @@ use crate::look::look;
 use crate::pool::{ASHIFT, Pool};
 use std::alloc::{AllocError, Global};
 use std::collections::BTreeMap;
-use zms_units::{Class, Copies, Dva, Seg, units_of};
+use zms_units::{Class, Copies, Dva, Seg, bytes_of, units_of};
 
 /// Where a segment of the pool's one metaslab lies.
 fn place_of(seg: Seg) -> Dva
@@ -27,8 +28,8 @@ fn place_of(seg: Seg) -> Dva
     Dva {
         class: Class::Normal,
         vdev: 0,
-        offset: u64::from(seg.start) << ASHIFT,
-        size: u64::from(seg.count) << ASHIFT,
+        offset: bytes_of(seg.start, ASHIFT),
+        size: bytes_of(seg.count, ASHIFT),
     }
 }
 
@@ -43,12 +44,13 @@ pub(crate) fn alloc<'a>(
     size: u64,
 ) -> Result<Answer, AllocError>
     requires pool { IsPool pool.old }
-    requires lane { (1 ≤ lane) × (lane ≤ 16) }
+    requires lane { IsLane lane }
     ensures acted { IfOk result (λ answer. Acted pool.old pool.new lane (AllocLine (ground_of (origin_of pool.old.metaslab)) lane size answer)) }
     ensures leaves { IfOk result (λ answer. LeavesSettled pool.old pool.new) }
     ensures answer { IfOk result IsOfAlloc }
     ensures learns { (class : Class) → (copies : ℕ) → IfOk result (λ answer. Learns (ground_of (origin_of pool.old.metaslab)) (AllocOf name.now size class copies) answer blocks.old blocks.new) }
     // Whatever is answered.
+    ensures first { pool.new.first ≡ pool.old.first }
     ensures stays { StaysButNotes pool.old.metaslab pool.new.metaslab }
     ensures gate { pool.new.gate.opened ≡ pool.old.gate.opened }
 {

@@ -1,6 +1,7 @@
 //! The command `free`.
 
 ghost use Rattle.std.specs.Prelude.{◌≡◌, ℕ, ◌+◌, ◌<◌, ◌≤◌, false, IfOk, IfSome};
+ghost use Rattle.zms_units.specs.Limits.{IsLane};
 ghost use Rattle.zms_units.specs.Segments.{covered, AreSegs};
 ghost use Rattle.ms_model.specs.Legal.{IsWithin};
 ghost use Rattle.ms_model.specs.Units.{held, is_loaded};
@@ -18,7 +19,7 @@ use crate::pool::{ASHIFT, FIRST_METASLAB, Pool};
 use ms_core::{Metaslab, MsFault};
 use seg_trees::PlainTrees;
 use std::alloc::AllocError;
-use zms_units::{Group, Seg};
+use zms_units::{Group, Seg, bytes_of};
 
 /// Frees a segment, bringing free space into memory first where it is not there. Where some unit of it is not handed out
 /// in a group of at most this one, it frees nothing and answers the lowest such unit. After an error the metaslab may be
@@ -30,7 +31,7 @@ fn give_back(
     group: Group,
     seg: Seg,
 ) -> Result<Option<u32>, AllocError>
-    requires lane { (1 ≤ lane) × (lane ≤ 16) }
+    requires lane { IsLane lane }
     requires above { collected_of metaslab.old < group.0 }
     requires near { group.0 ≤ settled_of metaslab.old + 3 }
     requires segment { IsWithin metaslab.old.units seg }
@@ -52,12 +53,13 @@ fn give_back(
 /// units are vacant again from the second settle after that of the open group.
 pub(crate) fn free(pool: &mut Pool, lane: u8, placed: Option<Seg>) -> Result<Answer, AllocError>
     requires pool { IsPool pool.old }
-    requires lane { (1 ≤ lane) × (lane ≤ 16) }
+    requires lane { IsLane lane }
     requires within { IfSome placed (IsWithin pool.old.metaslab.units) }
     ensures acted { IfOk result (λ answer. Acted pool.old pool.new lane (FreeLine (ground_of (origin_of pool.old.metaslab)) lane (copies_at (ground_of (origin_of pool.old.metaslab)) placed) answer)) }
     ensures leaves { IfOk result (λ answer. LeavesSettled pool.old pool.new) }
     ensures answer { IfOk result IsOfFree }
     // Whatever is answered.
+    ensures first { pool.new.first ≡ pool.old.first }
     ensures stays { StaysButNotes pool.old.metaslab pool.new.metaslab }
     ensures gate { pool.new.gate.opened ≡ pool.old.gate.opened }
 {
@@ -72,7 +74,7 @@ pub(crate) fn free(pool: &mut Pool, lane: u8, placed: Option<Seg>) -> Result<Ans
         None => Ok(Answer::Done { group }),
         Some(unit) => Ok(Answer::NotLive {
             vdev: FIRST_METASLAB.vdev,
-            offset: u64::from(unit) << ASHIFT,
+            offset: bytes_of(unit, ASHIFT),
         }),
     }
 }

@@ -1,12 +1,17 @@
 //! One lane: its commands in order, each with its reply.
 
-ghost use Rattle.std.specs.Prelude.{◌≡◌, ℕ, ◌+◌, ◌^◌, ◌<◌, ◌≤◌, List, [], ◌∷◌, ◌++◌, length, map, None, IsSome, IfOk};
+ghost use Rattle.std.specs.Prelude.{◌≡◌, ℕ, ◌+◌, ◌^◌, ◌<◌, ◌≤◌, List, [], ◌∷◌, ◌++◌, length, map, None, IsSome, is_some, if◌then◌else◌, IfOk, OnErr};
+ghost use Rattle.zms_units.specs.Limits.{IsLane, MAX_COMMANDS};
 ghost use Rattle.std.specs.List.{All};
 ghost use Rattle.txg_gate.specs.Closings.{closings_of};
-ghost use Rattle.ms_core.specs.State.{origin_of, StaysButNotes};
+ghost use Rattle.ms_core.specs.State.{origin_of, settled_of, StaysButNotes};
+ghost use Rattle.zms_dev.specs.Bytes.{Outside};
+ghost use Rattle.zms_dev.specs.Causes.{one_more};
 ghost use Rattle.zms_dev.specs.Disk.{Tells};
-ghost use Rattle.zms_top.specs.Script.{IsCommand};
-ghost use Rattle.zms_top.specs.Answers.{Replied, first_with, first_fault, paired};
+ghost use Rattle.zms_dev.specs.Runs.{Spares};
+ghost use Rattle.zms_top.specs.Record.{record_len};
+ghost use Rattle.zms_top.specs.Script.{IsBuilt, IsCommand};
+ghost use Rattle.zms_top.specs.Answers.{Replied, first_with, synced_after, first_fault, paired};
 ghost use Rattle.zms_top.specs.Backing.{WhatLine, AreIntervals};
 ghost use Rattle.zms_top.specs.Sound.{ground_of};
 ghost use Rattle.zms_top.specs.Naming.{AreWithin, Learns, AreNamed};
@@ -18,7 +23,8 @@ use crate::blocks::find_block;
 use crate::freeing::free;
 use crate::pool::Pool;
 use crate::syncing::sync;
-use crate::{Answer, Command, Reply, What};
+use crate::{Answer, Reply};
+use cmd_text::{Command, What};
 use std::alloc::{AllocError, Global};
 use std::collections::BTreeMap;
 use zms_dev::{Disk, Meet};
@@ -34,15 +40,18 @@ fn run_command<'a, D: Disk>(
     what: &'a What,
 ) -> Result<Answer, AllocError>
     requires pool { IsPool pool.old }
-    requires lane { (1 ≤ lane) × (lane ≤ 16) }
-    requires few { closings_of lane pool.old.gate.notes < 200000 }
+    requires lane { IsLane lane }
+    requires built { IsBuilt what.now }
+    requires few { closings_of lane pool.old.gate.notes < MAX_COMMANDS }
     requires within { AreWithin pool.old.metaslab.units blocks.old }
     ensures acted { (done : List Replied) → first_fault done ≡ pool.old.first → AreNamed (ground_of (origin_of pool.old.metaslab)) done blocks.old → IfOk result (λ answer. Acted pool.old pool.new lane (WhatLine (ground_of (origin_of pool.old.metaslab)) lane done what.now answer)) }
     ensures learns { IfOk result (λ answer. Learns (ground_of (origin_of pool.old.metaslab)) what.now answer blocks.old blocks.new) }
     ensures first { IfOk result (λ answer. pool.new.first ≡ first_with pool.old.first answer) }
+    ensures synced { IfOk result (λ answer. settled_of pool.new.metaslab ≡ synced_after (settled_of pool.old.metaslab) what.now answer) }
     ensures intervals { IfOk result (λ answer. AreIntervals (D.faults disk.old) (D.faults disk.new) (answer ∷ [])) }
     ensures kept { Tells (D.state disk.old) → IfOk result (λ answer. pool.new.first ≡ None → IsKept (origin_of pool.old.metaslab) pool.old.metaslab.notes pool.new.metaslab.notes (D.state disk.old) (D.state disk.new)) }
-    ensures later { D.faults disk.old ≤ D.faults disk.new }
+    ensures spares { Tells (D.state disk.old) → Spares (Outside 0 (record_len pool.old.record.units)) (D.state disk.old) (D.state disk.new) }
+    ensures err { OnErr result ((disk.new ≡ disk.old) × (pool.new.first ≡ pool.old.first)) }
     // Whatever is answered.
     ensures suspended { IsSome pool.old.first → disk.new ≡ disk.old }
     ensures stays { StaysButNotes pool.old.metaslab pool.new.metaslab }
@@ -54,6 +63,7 @@ fn run_command<'a, D: Disk>(
         }
         What::Free { name } => free(pool, lane, find_block(blocks, name.as_str())),
         What::Sync => sync(pool, disk, lane),
+        _ => unreachable!(),
     }
 }
 
@@ -68,13 +78,14 @@ pub(crate) fn run_lane<D: Disk, M: Meet>(
     requires pool { IsPool pool.old }
     requires fresh { pool.old.first ≡ None }
     requires commands { All IsCommand commands.now }
-    requires few { closings_of 1 pool.old.gate.notes + length commands.now ≤ 200000 }
+    requires few { closings_of 1 pool.old.gate.notes + length commands.now ≤ MAX_COMMANDS }
     ensures each { IfOk result (λ replies. length replies.items ≡ length commands.now) }
     ensures ran { IfOk result (λ replies. HasRun pool.old pool.new (paired commands.now replies.items)) }
     ensures intervals { IfOk result (λ replies. AreIntervals (D.faults disk.old) (D.faults disk.new) (answers_of replies.items)) }
     ensures kept { Tells (D.state disk.old) → IfOk result (λ replies. pool.new.first ≡ None → IsKept (origin_of pool.old.metaslab) pool.old.metaslab.notes pool.new.metaslab.notes (D.state disk.old) (D.state disk.new)) }
-    ensures later { D.faults disk.old ≤ D.faults disk.new }
     // Whatever is answered.
+    ensures faults { D.faults disk.new ≡ (if is_some pool.new.first then one_more (D.faults disk.old) else D.faults disk.old) }
+    ensures spares { Tells (D.state disk.old) → Spares (Outside 0 (record_len pool.old.record.units)) (D.state disk.old) (D.state disk.new) }
     ensures stays { StaysButNotes pool.old.metaslab pool.new.metaslab }
     ensures gate { pool.new.gate.opened ≡ pool.old.gate.opened }
 {

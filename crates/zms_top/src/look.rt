@@ -1,6 +1,7 @@
 //! One look at the metaslab for an alloc.
 
 ghost use Rattle.std.specs.Prelude.{◌≡◌, ℕ, ◌+◌, ◌<◌, ◌≤◌, Bool, true, false, IfOk, OnOk, OnErr};
+ghost use Rattle.zms_units.specs.Limits.{IsLane};
 ghost use Rattle.zms_units.specs.Segments.{covered, AreSegs};
 ghost use Rattle.ms_model.specs.Units.{held, is_loaded};
 ghost use Rattle.ms_core.specs.State.{origin_of, settled_of, collected_of, StaysButNotes};
@@ -18,7 +19,7 @@ pub(crate) fn load_first(
     base: &[Seg],
     lane: u8,
 ) -> Result<(), AllocError>
-    requires lane { (1 ≤ lane) × (lane ≤ 16) }
+    requires lane { IsLane lane }
     requires segs { AreSegs metaslab.old.units base.now }
     requires held { is_loaded metaslab.old.notes ≡ false → (u : ℕ) → u < metaslab.old.units → covered base.now u ≡ held (origin_of metaslab.old) metaslab.old.notes (settled_of metaslab.old) u }
     ensures loads { OnOk result (Loads lane metaslab.old.notes metaslab.new.notes) }
@@ -40,7 +41,7 @@ pub(crate) fn look(
     group: Group,
     count: u32,
 ) -> Result<Option<Seg>, AllocError>
-    requires lane { (1 ≤ lane) × (lane ≤ 16) }
+    requires lane { IsLane lane }
     requires above { collected_of metaslab.old < group.0 }
     requires near { group.0 ≤ settled_of metaslab.old + 3 }
     requires count { (1 ≤ count) × (count ≤ MAX_UNITS) }

@@ -1,160 +1,141 @@
-//! The text of replies and totals, written to a sink piece by piece. Nothing here takes memory.
+//! The text of replies and totals. Nothing here takes memory.
 
-ghost use Rattle.std.specs.Prelude.{◌≡◌, ◌+◌, ◌*◌, ◌∷◌, ◌++◌, ◌^◌, ◌<◌, ◌≤◌, List, length, map, codes, decimal};
+ghost use Rattle.std.specs.Prelude.{◌≡◌, ◌+◌, ◌*◌, ◌^◌, ◌<◌, ◌≤◌, ◌++◌, List, length, codes};
 ghost use Rattle.std.specs.List.{flat_map, list_any, sum_by};
+ghost use Rattle.zms_dev.specs.Prints.{Prints};
+ghost use Rattle.trace_text.specs.Pieces.{text_if};
+ghost use Rattle.zms_units.specs.Classes.{class_word};
 ghost use Rattle.zms_top.specs.Answers.{paired};
-ghost use Rattle.trace_text.specs.Printing.{Prints};
-ghost use Rattle.zms_top.specs.Script.{class_text};
-ghost use Rattle.zms_top.specs.Texts.{same_class, is_asked, if_asked, sums_text, live_bytes, deferred_bytes, vacant_bytes, counts_text, metaslab_text, metaslab_lines, class_line, class_lines, pool_line, group_line, totals_text, run_text, created_text, FitInBytes, copy_text, first_text, answer_text, head_text, reply_text};
+ghost use Rattle.zms_top.specs.Texts.{same_class, is_asked, if_asked, live_bytes, deferred_bytes, vacant_bytes, counts_text, metaslab_text, class_line, totals_text, run_text, created_text, FitInBytes, first_text, answer_text, head_text, reply_text};
 
 use crate::tally::Tally;
-use crate::{Answer, Command, Reply, What};
-use trace_text::{Piece, write_pieces};
+use crate::{Answer, Reply};
+use cmd_text::{Command, What};
+use trace_text::Piece::{Number, Text};
+use trace_text::{Each, Printed};
 use zms_dev::{Failed, Sink};
-use zms_units::{Class, Dva, First, Group};
-
-fn class_name(class: Class) -> &'static [u8]
-    ensures { result.now ≡ class_text class }
-{
-    match class {
-        Class::Normal => b"normal",
-        Class::Log => b"log",
-        Class::Special => b"special",
-        Class::Dedup => b"dedup",
-    }
-}
-
-/// Where a copy lies.
-fn write_copy<K: Sink>(out: &mut K, dva: &Dva) -> Result<(), Failed>
-    ensures { Prints (K.taken out.old) (K.taken out.new) (K.faults out.old) (K.faults out.new) (copy_text dva.now) result }
-{
-    write_pieces(
-        out,
-        &[
-            Piece::Text(b" "),
-            Piece::Text(class_name(dva.class)),
-            Piece::Text(b" "),
-            Piece::Number(u64::from(dva.vdev)),
-            Piece::Text(b":"),
-            Piece::Number(dva.offset),
-            Piece::Text(b":"),
-            Piece::Number(dva.size),
-        ],
-    )
-}
-
-fn write_copies<K: Sink>(out: &mut K, copies: &[Dva]) -> Result<(), Failed>
-    ensures { Prints (K.taken out.old) (K.taken out.new) (K.faults out.old) (K.faults out.new) (flat_map copy_text copies.now) result }
-{
-    for dva in copies {
-        write_copy(out, dva)?;
-    }
-    Ok(())
-}
+use zms_units::{Class, First, Group, bytes_of};
 
 /// The first fault or damage, as a suspended pool tells it.
-fn write_first<K: Sink>(out: &mut K, first: &First) -> Result<(), Failed>
-    ensures { Prints (K.taken out.old) (K.taken out.new) (K.faults out.old) (K.faults out.new) (first_text first.now) result }
-{
-    let (one, other) = match *first {
-        First::Device { before, after } => (before, after),
-        First::Damaged { id, .. } => (u64::from(id.vdev), u64::from(id.index)),
-    };
-    write_pieces(
-        out,
-        &[Piece::Number(one), Piece::Text(b" "), Piece::Number(other)],
-    )
+#[derive(Clone, Copy)]
+struct Kept(First);
+
+impl Printed for Kept {
+    ghost text = { λ kept. first_text kept.0 };
+
+    fn write<S: Sink>(&self, out: &mut S) -> Result<(), Failed> {
+        match self.0 {
+            First::Device { before, after } => {
+                (Number(before), Text(b" "), Number(after)).write(out)
+            }
+            First::Damaged { id, .. } => (
+                Number(u64::from(id.vdev)),
+                Text(b" "),
+                Number(u64::from(id.index)),
+            )
+                .write(out),
+        }
+    }
 }
 
-fn write_granted<K: Sink>(out: &mut K, group: Group, copies: &[Dva]) -> Result<(), Failed>
-    ensures { Prints (K.taken out.old) (K.taken out.new) (K.faults out.old) (K.faults out.new) (codes "granted " ++ (decimal group.0 ++ flat_map copy_text copies.now)) result }
-{
-    write_pieces(out, &[Piece::Text(b"granted "), Piece::Number(group.0)])?;
-    write_copies(out, copies)
-}
+impl Printed for Answer {
+    ghost text = { answer_text };
 
-fn write_suspended<K: Sink>(out: &mut K, first: &First) -> Result<(), Failed>
-    ensures { Prints (K.taken out.old) (K.taken out.new) (K.faults out.old) (K.faults out.new) (codes "suspended " ++ first_text first.now) result }
-{
-    write_pieces(out, &[Piece::Text(b"suspended ")])?;
-    write_first(out, first)
-}
-
-fn write_answer<K: Sink>(out: &mut K, answer: &Answer) -> Result<(), Failed>
-    ensures { Prints (K.taken out.old) (K.taken out.new) (K.faults out.old) (K.faults out.new) (answer_text answer.now) result }
-{
-    match answer {
-        Answer::Granted { group, copies } => write_granted(out, *group, copies.as_slice()),
-        Answer::NoSpace { looked } => write_pieces(
-            out,
-            &[Piece::Text(b"nospace "), Piece::Number(*looked)],
-        ),
-        Answer::BadSize => write_pieces(out, &[Piece::Text(b"badsize")]),
-        Answer::Done { group } => write_pieces(
-            out,
-            &[Piece::Text(b"done "), Piece::Number(group.0)],
-        ),
-        Answer::NoName => write_pieces(out, &[Piece::Text(b"noname")]),
-        Answer::NotLive { vdev, offset } => write_pieces(
-            out,
-            &[
-                Piece::Text(b"notlive "),
-                Piece::Number(u64::from(*vdev)),
-                Piece::Text(b":"),
-                Piece::Number(*offset),
-            ],
-        ),
-        Answer::Device { before, after } => write_pieces(
-            out,
-            &[
-                Piece::Text(b"device "),
-                Piece::Number(*before),
-                Piece::Text(b" "),
-                Piece::Number(*after),
-            ],
-        ),
-        Answer::Suspended { first } => write_suspended(out, first),
+    fn write<S: Sink>(&self, out: &mut S) -> Result<(), Failed> {
+        match self {
+            Answer::Granted { group, copies } => {
+                (Text(b"granted "), Number(group.0), copies).write(out)
+            }
+            Answer::NoSpace { looked } => (Text(b"nospace "), Number(*looked)).write(out),
+            Answer::BadSize => Text(b"badsize").write(out),
+            Answer::Done { group } => (Text(b"done "), Number(group.0)).write(out),
+            Answer::NoName => Text(b"noname").write(out),
+            Answer::NotLive { vdev, offset } => (
+                Text(b"notlive "),
+                Number(u64::from(*vdev)),
+                Text(b":"),
+                Number(*offset),
+            )
+                .write(out),
+            Answer::Device { before, after } => (
+                Text(b"device "),
+                Number(*before),
+                Text(b" "),
+                Number(*after),
+            )
+                .write(out),
+            Answer::Suspended { first } => (Text(b"suspended "), Kept(*first)).write(out),
+        }
     }
 }
 
 /// The command word and its first argument.
-fn write_head<K: Sink>(out: &mut K, what: &What) -> Result<(), Failed>
-    ensures { Prints (K.taken out.old) (K.taken out.new) (K.faults out.old) (K.faults out.new) (head_text what.now) result }
-{
-    match what {
-        What::Alloc { name, .. } => write_pieces(
-            out,
-            &[
-                Piece::Text(b"alloc "),
-                Piece::Text(name.as_str().as_bytes()),
-            ],
-        ),
-        What::Free { name } => write_pieces(
-            out,
-            &[Piece::Text(b"free "), Piece::Text(name.as_str().as_bytes())],
-        ),
-        What::Sync => write_pieces(out, &[Piece::Text(b"sync")]),
+#[derive(Clone, Copy)]
+struct Head<'a>(&'a What);
+
+impl<'a> Printed for Head<'a> {
+    ghost text = { λ head. head_text head.0.now };
+
+    fn write<S: Sink>(&self, out: &mut S) -> Result<(), Failed> {
+        match self.0 {
+            What::Alloc { name, .. } => {
+                (Text(b"alloc "), Text(name.as_str().as_bytes())).write(out)
+            }
+            What::Free { name } => (Text(b"free "), Text(name.as_str().as_bytes())).write(out),
+            What::FreeSeg { vdev, offset, size } => (
+                Text(b"freeseg "),
+                Number(u64::from(*vdev)),
+                Text(b" "),
+                Number(*offset),
+                Text(b" "),
+                Number(*size),
+            )
+                .write(out),
+            What::Sync => Text(b"sync").write(out),
+            What::Load { vdev, index } => (
+                Text(b"load "),
+                Number(u64::from(*vdev)),
+                Text(b" "),
+                Number(u64::from(*index)),
+            )
+                .write(out),
+            What::Unload { vdev, index } => (
+                Text(b"unload "),
+                Number(u64::from(*vdev)),
+                Text(b" "),
+                Number(u64::from(*index)),
+            )
+                .write(out),
+            What::Init { vdev } => (Text(b"init "), Number(u64::from(*vdev))).write(out),
+            What::Trim { vdev } => (Text(b"trim "), Number(u64::from(*vdev))).write(out),
+            What::AutoTrim { vdev } => (Text(b"autotrim "), Number(u64::from(*vdev))).write(out),
+        }
     }
 }
 
 /// One line of out: the lane, the command and the answer.
-fn write_reply<K: Sink>(out: &mut K, command: &Command, reply: &Reply) -> Result<(), Failed>
-    ensures { Prints (K.taken out.old) (K.taken out.new) (K.faults out.old) (K.faults out.new) (reply_text (record { command = command.now; reply = reply.now })) result }
+fn write_reply<S: Sink>(out: &mut S, command: &Command, reply: &Reply) -> Result<(), Failed>
+    ensures { Prints (S.state out.old) (S.state out.new) (reply_text (record { command = command.now; reply = reply.now })) result }
 {
-    write_pieces(out, &[Piece::Number(reply.lane as u64), Piece::Text(b" ")])?;
-    write_head(out, &command.what)?;
-    write_pieces(out, &[Piece::Text(b" ")])?;
-    write_answer(out, &reply.answer)?;
-    write_pieces(out, &[Piece::Text(b"\n")])
+    let lane = u64::from(reply.lane);
+    (
+        Number(lane),
+        Text(b" "),
+        Head(&command.what),
+        Text(b" "),
+        &reply.answer,
+        Text(b"\n"),
+    )
+        .write(out)
 }
 
-fn write_replies<K: Sink>(
-    out: &mut K,
+fn write_replies<S: Sink>(
+    out: &mut S,
     commands: &[Command],
     replies: &[Reply],
 ) -> Result<(), Failed>
     requires { length commands.now ≡ length replies.now }
-    ensures { Prints (K.taken out.old) (K.taken out.new) (K.faults out.old) (K.faults out.new) (flat_map reply_text (paired commands.now replies.now)) result }
+    ensures { Prints (S.state out.old) (S.state out.new) (flat_map reply_text (paired commands.now replies.now)) result }
 {
     for (at, reply) in replies.iter().enumerate() {
         write_reply(out, &commands[at], reply)?;
@@ -183,7 +164,7 @@ fn is_wanted(asked: Option<Class>, class: Class) -> bool
     }
 }
 
-/// Bytes that are live, deferred and vacant.
+/// Counts that are live, deferred and vacant, in units or in bytes.
 #[derive(Clone, Copy)]
 struct Sums {
     live: u64,
@@ -191,12 +172,41 @@ struct Sums {
     vacant: u64,
 }
 
-fn bytes_in(units: u32, ashift: u8) -> u64
-    requires shift { ashift < 64 }
-    requires fits { units * 2 ^ ashift < 2 ^ 64 }
-    ensures { result ≡ units * 2 ^ ashift }
-{
-    u64::from(units) * (1u64 << ashift)
+/// The counts at the end of a line.
+impl Printed for Sums {
+    ghost text = { λ sums. counts_text sums.live sums.deferred sums.vacant };
+
+    fn write<S: Sink>(&self, out: &mut S) -> Result<(), Failed> {
+        (
+            Text(b" live "),
+            Number(self.live),
+            Text(b" deferred "),
+            Number(self.deferred),
+            Text(b" vacant "),
+            (Number(self.vacant), Text(b"\n")),
+        )
+            .write(out)
+    }
+}
+
+impl Printed for Tally {
+    ghost text = { metaslab_text };
+
+    fn write<S: Sink>(&self, out: &mut S) -> Result<(), Failed> {
+        let sums = Sums {
+            live: u64::from(self.live),
+            deferred: u64::from(self.deferred),
+            vacant: u64::from(self.vacant),
+        };
+        (
+            Text(b"metaslab "),
+            Number(u64::from(self.id.vdev)),
+            Text(b" "),
+            Number(u64::from(self.id.index)),
+            sums,
+        )
+            .write(out)
+    }
 }
 
 /// The sums of the metaslabs of a class, or of all. Linear in the metaslabs.
@@ -214,69 +224,33 @@ fn sums_of(tallies: &[Tally], asked: Option<Class>) -> Sums
     for tally in tallies {
         if is_wanted(asked, tally.class) {
             sums = Sums {
-                live: sums.live + bytes_in(tally.live, tally.ashift),
-                deferred: sums.deferred + bytes_in(tally.deferred, tally.ashift),
-                vacant: sums.vacant + bytes_in(tally.vacant, tally.ashift),
+                live: sums.live + bytes_of(tally.live, tally.ashift),
+                deferred: sums.deferred + bytes_of(tally.deferred, tally.ashift),
+                vacant: sums.vacant + bytes_of(tally.vacant, tally.ashift),
             };
         }
     }
     sums
 }
 
-/// The counts at the end of a line.
-fn write_counts<K: Sink>(out: &mut K, live: u64, deferred: u64, vacant: u64) -> Result<(), Failed>
-    ensures { Prints (K.taken out.old) (K.taken out.new) (K.faults out.old) (K.faults out.new) (counts_text live deferred vacant) result }
-{
-    write_pieces(
-        out,
-        &[
-            Piece::Text(b" live "),
-            Piece::Number(live),
-            Piece::Text(b" deferred "),
-            Piece::Number(deferred),
-            Piece::Text(b" vacant "),
-            Piece::Number(vacant),
-            Piece::Text(b"\n"),
-        ],
-    )
+/// A class with its sums.
+#[derive(Clone, Copy)]
+struct ClassSums {
+    class: Class,
+    sums: Sums,
 }
 
-fn write_metaslab<K: Sink>(out: &mut K, tally: &Tally) -> Result<(), Failed>
-    ensures { Prints (K.taken out.old) (K.taken out.new) (K.faults out.old) (K.faults out.new) (metaslab_text tally.now) result }
-{
-    write_pieces(
-        out,
-        &[
-            Piece::Text(b"metaslab "),
-            Piece::Number(tally.id.vdev as u64),
-            Piece::Text(b" "),
-            Piece::Number(tally.id.index as u64),
-        ],
-    )?;
-    write_counts(
-        out,
-        tally.live as u64,
-        tally.deferred as u64,
-        tally.vacant as u64,
-    )
-}
+impl Printed for ClassSums {
+    ghost text = { λ c. codes "class " ++ (class_word c.class ++ counts_text c.sums.live c.sums.deferred c.sums.vacant) };
 
-fn write_metaslabs<K: Sink>(out: &mut K, tallies: &[Tally]) -> Result<(), Failed>
-    ensures { Prints (K.taken out.old) (K.taken out.new) (K.faults out.old) (K.faults out.new) (metaslab_lines tallies.now) result }
-{
-    for tally in tallies {
-        write_metaslab(out, tally)?;
+    fn write<S: Sink>(&self, out: &mut S) -> Result<(), Failed> {
+        (
+            Text(b"class "),
+            Text(self.class.word().as_bytes()),
+            self.sums,
+        )
+            .write(out)
     }
-    Ok(())
-}
-
-/// The sums of a class, or of all, behind the words that name it.
-fn write_sums<K: Sink>(out: &mut K, tallies: &[Tally], asked: Option<Class>) -> Result<(), Failed>
-    requires fits { FitInBytes tallies.now }
-    ensures { Prints (K.taken out.old) (K.taken out.new) (K.faults out.old) (K.faults out.new) (sums_text asked tallies.now) result }
-{
-    let sums = sums_of(tallies, asked);
-    write_counts(out, sums.live, sums.deferred, sums.vacant)
 }
 
 fn has_class(tallies: &[Tally], class: Class) -> bool
@@ -285,66 +259,40 @@ fn has_class(tallies: &[Tally], class: Class) -> bool
     tallies.iter().any(|tally| is_same(class, tally.class))
 }
 
-fn write_class<K: Sink>(out: &mut K, tallies: &[Tally], class: Class) -> Result<(), Failed>
+/// The sums of a class, where some metaslab is of the class.
+fn class_sums(tallies: &[Tally], class: Class) -> Option<ClassSums>
     requires fits { FitInBytes tallies.now }
-    ensures { Prints (K.taken out.old) (K.taken out.new) (K.faults out.old) (K.faults out.new) (class_line tallies.now class) result }
+    ensures { text_if ⟦<ClassSums as Printed>⟧.text result ≡ class_line tallies.now class }
 {
     if has_class(tallies, class) {
-        write_pieces(
-            out,
-            &[Piece::Text(b"class "), Piece::Text(class_name(class))],
-        )?;
-        write_sums(out, tallies, Some(class))
+        let sums = sums_of(tallies, Some(class));
+        Some(ClassSums { class, sums })
     } else {
-        Ok(())
+        None
     }
 }
 
-fn write_classes<K: Sink>(out: &mut K, tallies: &[Tally]) -> Result<(), Failed>
-    requires fits { FitInBytes tallies.now }
-    ensures { Prints (K.taken out.old) (K.taken out.new) (K.faults out.old) (K.faults out.new) (class_lines tallies.now) result }
-{
-    write_class(out, tallies, Class::Normal)?;
-    write_class(out, tallies, Class::Log)?;
-    write_class(out, tallies, Class::Special)?;
-    write_class(out, tallies, Class::Dedup)
-}
-
-fn write_pool<K: Sink>(out: &mut K, tallies: &[Tally]) -> Result<(), Failed>
-    requires fits { FitInBytes tallies.now }
-    ensures { Prints (K.taken out.old) (K.taken out.new) (K.faults out.old) (K.faults out.new) (pool_line tallies.now) result }
-{
-    write_pieces(out, &[Piece::Text(b"pool")])?;
-    write_sums(out, tallies, None)
-}
-
-fn write_group<K: Sink>(out: &mut K, group: Group) -> Result<(), Failed>
-    ensures { Prints (K.taken out.old) (K.taken out.new) (K.faults out.old) (K.faults out.new) (group_line group.0) result }
-{
-    write_pieces(
-        out,
-        &[
-            Piece::Text(b"group "),
-            Piece::Number(group.0),
-            Piece::Text(b"\n"),
-        ],
-    )
-}
-
 /// The totals of a run.
-fn write_totals<K: Sink>(out: &mut K, tallies: &[Tally], group: Group) -> Result<(), Failed>
+fn write_totals<S: Sink>(out: &mut S, tallies: &[Tally], group: Group) -> Result<(), Failed>
     requires fits { FitInBytes tallies.now }
-    ensures { Prints (K.taken out.old) (K.taken out.new) (K.faults out.old) (K.faults out.new) (totals_text tallies.now group.0) result }
+    ensures { Prints (S.state out.old) (S.state out.new) (totals_text tallies.now group.0) result }
 {
-    write_metaslabs(out, tallies)?;
-    write_classes(out, tallies)?;
-    write_pool(out, tallies)?;
-    write_group(out, group)
+    (
+        Each(tallies),
+        (
+            class_sums(tallies, Class::Normal),
+            class_sums(tallies, Class::Log),
+            class_sums(tallies, Class::Special),
+            class_sums(tallies, Class::Dedup),
+        ),
+        (Text(b"pool"), sums_of(tallies, None)),
+        (Text(b"group "), Number(group.0), Text(b"\n")),
+    )
+        .write(out)
 }
 
-/// All that a run prints: a line for each command, then the totals. Linear in the commands.
-pub fn write_run<K: Sink>(
-    out: &mut K,
+fn write_lines<S: Sink>(
+    out: &mut S,
     commands: &[Command],
     replies: &[Reply],
     tallies: &[Tally],
@@ -352,15 +300,32 @@ pub fn write_run<K: Sink>(
 ) -> Result<(), Failed>
     requires each { length commands.now ≡ length replies.now }
     requires fits { FitInBytes tallies.now }
-    ensures { Prints (K.taken out.old) (K.taken out.new) (K.faults out.old) (K.faults out.new) (run_text (paired commands.now replies.now) tallies.now group.0) result }
+    ensures { Prints (S.state out.old) (S.state out.new) (run_text (paired commands.now replies.now) tallies.now group.0) result }
 {
     write_replies(out, commands, replies)?;
     write_totals(out, tallies, group)
 }
 
-/// All that `create` prints.
-pub fn write_created<K: Sink>(out: &mut K) -> Result<(), Failed>
-    ensures { Prints (K.taken out.old) (K.taken out.new) (K.faults out.old) (K.faults out.new) created_text result }
+/// All that a run prints, which is handed on at the end: a line for each command, then the totals. Linear in the commands.
+pub fn write_run<S: Sink>(
+    out: &mut S,
+    commands: &[Command],
+    replies: &[Reply],
+    tallies: &[Tally],
+    group: Group,
+) -> Result<(), Failed>
+    requires each { length commands.now ≡ length replies.now }
+    requires fits { FitInBytes tallies.now }
+    ensures { Prints (S.state out.old) (S.state out.new) (run_text (paired commands.now replies.now) tallies.now group.0) result }
 {
-    write_pieces(out, &[Piece::Text(b"created group 4\n")])
+    write_lines(out, commands, replies, tallies, group)?;
+    out.flush()
+}
+
+/// All that `create` prints.
+pub fn write_created<S: Sink>(out: &mut S) -> Result<(), Failed>
+    ensures { Prints (S.state out.old) (S.state out.new) created_text result }
+{
+    Text(b"created group 4\n").write(out)?;
+    out.flush()
 }

@@ -4,9 +4,10 @@
 //! whole words of 64 bits, the low bits first. All numbers are little-endian. Every commit writes all of it over the old
 //! one in one write, and then flushes.
 
-ghost use Rattle.std.specs.Prelude.{◌≡◌, ℕ, ◌+◌, ◌*◌, ◌/◌, ◌-◌, ◌<◌, ◌≤◌, Bool, true, false, nat_le, ◌==◌, if◌then◌else◌, [], ◌∷◌, ◌++◌, List, length, IfOk, OnOk, OnErr, IfSome, MatchOption, IsErrOf};
+ghost use Rattle.std.specs.Prelude.{◌≡◌, ℕ, ◌+◌, ◌*◌, ◌/◌, ◌-◌, ◌<◌, ◌≤◌, Bool, true, false, nat_le, ◌==◌, if◌then◌else◌, [], ◌∷◌, ◌++◌, List, length, IfOk, OnOk, OnErr, IfSome, MatchOption};
+ghost use Rattle.zms_units.specs.Limits.{IsUnitCount};
 ghost use Rattle.zms_dev.specs.Bytes.{byte, Outside};
-ghost use Rattle.zms_dev.specs.Causes.{HasCause, Rose};
+ghost use Rattle.zms_dev.specs.Causes.{HasCause, HasCauseOf};
 ghost use Rattle.zms_dev.specs.Disk.{Tells, bytes_of};
 ghost use Rattle.zms_dev.specs.Runs.{Spares, Untouched};
 ghost use Rattle.zms_units.specs.Segments.{end_of, covers, covered, AreSegs};
@@ -17,22 +18,13 @@ ghost use Rattle.zms_top.specs.declared.record.StoreFault.TheVariants.{Memory, F
 use byteorder::{ByteOrder, LittleEndian};
 use std::alloc::{AllocError, Global};
 use zms_dev::{Disk, Failed, put, read_part};
-use zms_units::{Group, MAX_UNITS, Seg};
+use zms_units::{FIRST_GROUP, GROUPS_END, Group, MAX_UNITS, MIN_UNITS, Seg};
 
 /// The text at the front of a pool device.
 const TEXT: &[u8] = b"ZMSPOOL0";
 
 /// How many bytes stand before the bits.
 const HEAD_LEN: usize = 24;
-
-/// The fewest units that a record may have.
-const MIN_UNITS: u32 = 64;
-
-/// The first group that may be committed.
-const FIRST_GROUP: u64 = 4;
-
-/// One more than the last group that may be committed.
-const GROUPS_END: u64 = 1 << 49;
 
 /// Why a record was not read.
 #[derive(Clone, Copy, Debug, PartialEq, Eq)]
@@ -175,10 +167,9 @@ fn head_of(bytes: &[u8]) -> Option<Head>
 
 /// Reads the head of a device's record.
 fn read_head<D: Disk>(disk: &mut D) -> Result<Option<Head>, Failed>
-    ensures limits { IfOk result (λ found. IfSome found (λ head. IsGroup head.group.0 × (64 ≤ head.units) × (head.units ≤ 131072))) }
+    ensures limits { IfOk result (λ found. IfSome found (λ head. IsGroup head.group.0 × IsUnitCount head.units)) }
     ensures head { Tells (D.state disk.old) → IfOk result (λ found. MatchOption found (HasNoRecord (bytes_of (D.state disk.old))) (λ head. HasRecord (bytes_of (D.state disk.old)) head.group.0 head.units)) }
     ensures rests { Tells (D.state disk.old) → Untouched (D.state disk.old) (D.state disk.new) }
-    ensures flushes { Tells (D.state disk.old) → (D.state disk.new).flushes ≡ (D.state disk.old).flushes }
     ensures cause { HasCause (D.faults disk.old) (D.faults disk.new) result }
 {
     let mut head = [0u8; HEAD_LEN];
@@ -188,12 +179,11 @@ fn read_head<D: Disk>(disk: &mut D) -> Result<Option<Head>, Failed>
 
 /// Reads the bits of a device's record. The bits past its units are left out.
 fn read_bits<D: Disk>(disk: &mut D, units: u32, bytes: &mut [u8]) -> Result<(), Failed>
-    requires most { units ≤ 131072 }
+    requires most { units ≤ MAX_UNITS }
     requires len { length bytes.old ≡ record_len units }
     ensures bits { Tells (D.state disk.old) → OnOk result ((u : ℕ) → u < units → is_set bytes.new u ≡ is_set (bytes_of (D.state disk.old)) u) }
     ensures padding { OnOk result ((u : ℕ) → units ≤ u → is_set bytes.new u ≡ false) }
     ensures rests { Tells (D.state disk.old) → Untouched (D.state disk.old) (D.state disk.new) }
-    ensures flushes { Tells (D.state disk.old) → (D.state disk.new).flushes ≡ (D.state disk.old).flushes }
     ensures cause { HasCause (D.faults disk.old) (D.faults disk.new) result }
 {
     read_part(disk, 0, bytes)?;
@@ -209,7 +199,7 @@ impl FirstRecord {
     /// A record in which no unit is held. Linear in the units.
     pub(crate) fn empty(alloc: Global, units: u32) -> Result<FirstRecord, AllocError>
         requires least { 64 ≤ units }
-        requires most { units ≤ 131072 }
+        requires most { units ≤ MAX_UNITS }
         ensures units { IfOk result (λ made. made.units ≡ units) }
         ensures bits { IfOk result (λ made. (u : ℕ) → is_set made.bytes.items u ≡ false) }
     {
@@ -225,13 +215,11 @@ impl FirstRecord {
         units: u32,
     ) -> Result<FirstRecord, StoreFault>
         requires least { 64 ≤ units }
-        requires most { units ≤ 131072 }
+        requires most { units ≤ MAX_UNITS }
         ensures units { IfOk result (λ made. made.units ≡ units) }
         ensures bits { Tells (D.state disk.old) → IfOk result (λ made. (u : ℕ) → u < units → is_set made.bytes.items u ≡ is_set (bytes_of (D.state disk.old)) u) }
         ensures rests { Tells (D.state disk.old) → Untouched (D.state disk.old) (D.state disk.new) }
-        ensures flushes { Tells (D.state disk.old) → (D.state disk.new).flushes ≡ (D.state disk.old).flushes }
-        ensures later { D.faults disk.old ≤ D.faults disk.new }
-        ensures failed { IsErrOf result StoreFault.Failed → Rose (D.faults disk.old) (D.faults disk.new) }
+        ensures cause { HasCauseOf StoreFault.Failed StoreFault.Memory (D.faults disk.old) (D.faults disk.new) result }
     {
         let mut record = FirstRecord::empty(alloc, units)?;
         read_bits(disk, units, &mut record.bytes)?;
@@ -243,9 +231,7 @@ impl FirstRecord {
         ensures group { IfOk result (λ found. IfSome found (λ opened. IsGroup opened.group.0)) }
         ensures record { Tells (D.state disk.old) → IfOk result (λ found. MatchOption found (HasNoRecord (bytes_of (D.state disk.old))) (λ opened. IsReadFrom (bytes_of (D.state disk.old)) opened.group.0 opened.record.units opened.record.bytes.items)) }
         ensures rests { Tells (D.state disk.old) → Untouched (D.state disk.old) (D.state disk.new) }
-        ensures flushes { Tells (D.state disk.old) → (D.state disk.new).flushes ≡ (D.state disk.old).flushes }
-        ensures later { D.faults disk.old ≤ D.faults disk.new }
-        ensures failed { IsErrOf result StoreFault.Failed → Rose (D.faults disk.old) (D.faults disk.new) }
+        ensures cause { HasCauseOf StoreFault.Failed StoreFault.Memory (D.faults disk.old) (D.faults disk.new) result }
     {
         let Some(head) = read_head(disk)? else {
             return Ok(None);
@@ -261,7 +247,7 @@ impl FirstRecord {
     pub(crate) fn units(&self) -> u32
         ensures units { result ≡ self.now.units }
         ensures least { 64 ≤ result }
-        ensures most { result ≤ 131072 }
+        ensures most { result ≤ MAX_UNITS }
     {
         self.units
     }

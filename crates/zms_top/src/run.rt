@@ -1,36 +1,40 @@
 //! A run of a command file over a pool.
 
-ghost use Rattle.std.specs.Prelude.{◌≡◌, ℕ, ◌+◌, ◌^◌, ◌<◌, ◌≤◌, [], ◌∷◌, length, None, IsSome, IfOk, IfErr};
+ghost use Rattle.std.specs.Prelude.{◌≡◌, ℕ, ◌+◌, ◌^◌, ◌<◌, ◌≤◌, [], ◌∷◌, length, None, IsSome, IfOk, IfErr, OnOk};
 ghost use Rattle.zms_dev.specs.Disk.{Tells};
 ghost use Rattle.zms_top.specs.Script.{IsFile, AreCommands};
-ghost use Rattle.zms_top.specs.Ends.{text_of, IsReadEnd, IsOpenEnd, IsUnwritten};
+ghost use Rattle.zms_dev.specs.Runs.{Untouched};
+ghost use Rattle.zms_dev.specs.Stream.{SourceState};
+ghost use Rattle.zms_top.specs.World.{world};
+ghost use Rattle.zms_top.specs.Ends.{text_of, IsRead, IsReadEnd, IsOfText, IsOpenEnd, LanesEnd};
 ghost use Rattle.zms_top.specs.Record.{IsGroup};
 ghost use Rattle.ms_core.specs.State.{origin_of};
 ghost use Rattle.zms_top.specs.Ends.{RunEnds};
 ghost use Rattle.zms_top.specs.Opening.{IsOpened, IsAssembled, IsFresh};
 ghost use Rattle.zms_top.specs.Answers.{paired};
-ghost use Rattle.zms_top.specs.Reporting.{sink};
-ghost use Rattle.zms_top.specs.Shipping.{HasHandedOver, IsReported, LanesEnd};
+ghost use Rattle.zms_top.specs.Shipping.{HasHandedOver, IsReported};
 
+use crate::Reply;
 use crate::lane::run_lane;
 use crate::pool::{ASHIFT, FIRST_METASLAB, Pool};
 use crate::record::{FirstRecord, Opened, StoreFault};
-use crate::script::{MAX_TEXT_BYTES, Script, TextFault, read_commands};
+use crate::script::read_runnable;
 use crate::shipping::{Room, hand_over, print, status_of, trace_journals};
 use crate::status::{OpenCause, PoolCause, RunLists, Status};
-use crate::{Command, Reply};
+use cmd_text::{Command, TextFault};
 use ms_core::{Metaslab, RunBuf};
 use ms_model::Journals;
 use std::alloc::{AllocError, Global};
 use txg_gate::Gate;
 use zms_dev::{Disk, Meet, ReadError, Sink, Source, read_text};
-use zms_units::{Class, Items, VdevRow};
+use zms_units::{Class, Items, MAX_TEXT_BYTES, VdevRow};
 
 /// The commands of the source's text, of which at most one byte past the limit is read.
-fn read_script<S: Source>(alloc: Global, input: &mut S) -> Result<Script, Status>
-    ensures file { IsSome (S.left input.old) → IfOk result (λ script. IsFile (text_of (S.left input.old)) script.commands) }
-    ensures commands { IfOk result (λ script. AreCommands script.commands) }
-    ensures err { IfErr result (IsReadEnd (S.left input.old) (S.faults input.old) (S.faults input.new)) }
+fn read_script<S: Source>(alloc: Global, input: &mut S) -> Result<Items<Command>, Status>
+    ensures file { IsSome (S.state input.old).left → IfOk result (IsFile (text_of (S.state input.old).left)) }
+    ensures commands { IfOk result AreCommands }
+    ensures read { OnOk result (IsRead (S.state input.old) (S.state input.new)) }
+    ensures err { IfErr result (IsReadEnd (S.state input.old) (S.state input.new)) }
 {
     let mut text = Vec::new(alloc);
     if let Err(fault) = read_text(alloc, input, &mut text, MAX_TEXT_BYTES) {
@@ -39,8 +43,8 @@ fn read_script<S: Source>(alloc: Global, input: &mut S) -> Result<Script, Status
             ReadError::Memory => Status::Memory,
         });
     }
-    match read_commands(alloc, &text) {
-        Ok(script) => Ok(script),
+    match read_runnable(alloc, &text) {
+        Ok(commands) => Ok(commands),
         Err(TextFault::Bad { line }) => Err(Status::BadText { line }),
         Err(TextFault::Memory) => Err(Status::Memory),
     }
@@ -77,8 +81,9 @@ fn assemble(alloc: Global, opened: Opened) -> Result<Pool, AllocError>
 fn open<D: Disk>(alloc: Global, disk: &mut D) -> Result<Pool, Status>
     ensures opened { IfOk result (IsOpened (D.state disk.old)) }
     ensures err { IfErr result (IsOpenEnd (D.state disk.old) (D.faults disk.old) (D.faults disk.new)) }
-    ensures unwritten { Tells (D.state disk.old) → IsUnwritten (D.state disk.old) (D.state disk.new) }
-    ensures later { D.faults disk.old ≤ D.faults disk.new }
+    ensures untouched { Tells (D.state disk.old) → Untouched (D.state disk.old) (D.state disk.new) }
+    ensures steady { OnOk result (D.faults disk.new ≡ D.faults disk.old) }
+    ensures no_text { IfErr result (λ status. IsOfText status → ⊥) }
 {
     match FirstRecord::read(alloc, disk) {
         Ok(Some(opened)) => match assemble(alloc, opened) {
@@ -143,7 +148,7 @@ fn reported<K: Sink, T: Sink>(
     requires id { pool.metaslab.id ≡ record { vdev = 0; index = 0 } }
     requires opened { pool.gate.opened ≡ pool.metaslab.opened }
     requires each { length commands.now ≡ length replies.items }
-    ensures { IsReported pool (paired commands.now replies.items) replies.items (sink (K.taken out.old) (K.faults out.old)) (sink (K.taken out.new) (K.faults out.new)) (sink (T.taken trace.old) (T.faults trace.old)) (sink (T.taken trace.new) (T.faults trace.new)) result.status result.journals result.lists }
+    ensures { IsReported pool (paired commands.now replies.items) replies.items (K.state out.old) (K.state out.new) (T.state trace.old) (T.state trace.new) result.status result.journals result.lists }
 {
     let printed = print(out, &pool, commands, &replies);
     let (journals, lists) = hand_over(alloc, pool, room, Items::from_vec(replies));
@@ -168,7 +173,8 @@ fn run_lanes<K: Sink, T: Sink, D: Disk, M: Meet>(
 ) -> Ended
     requires opened { IsFresh opened }
     requires commands { AreCommands commands.now }
-    ensures { LanesEnd (origin_of opened.metaslab) commands.now (sink (K.taken out.old) (K.faults out.old)) (sink (K.taken out.new) (K.faults out.new)) (sink (T.taken trace.old) (T.faults trace.old)) (sink (T.taken trace.new) (T.faults trace.new)) (D.state disk.old) (D.state disk.new) (D.faults disk.old) (D.faults disk.new) result.status result.journals result.lists }
+    ensures ends { (read left : SourceState) → LanesEnd commands.now (world read (K.state out.old) (T.state trace.old) (D.state disk.old) (D.faults disk.old)) (world left (K.state out.new) (T.state trace.new) (D.state disk.new) (D.faults disk.new)) (origin_of opened.metaslab) result.status result.journals result.lists }
+    ensures no_text { IsOfText result.status → ⊥ }
 {
     let mut pool = opened;
     match run_lane(alloc, &mut pool, disk, commands, meet) {
@@ -186,10 +192,11 @@ pub(crate) fn run<S: Source, K: Sink, T: Sink, D: Disk, M: Meet>(
     disk: &mut D,
     meet: &M,
 ) -> Ended
-    ensures { RunEnds (S.left input.old) (S.faults input.old) (S.faults input.new) (sink (K.taken out.old) (K.faults out.old)) (sink (K.taken out.new) (K.faults out.new)) (sink (T.taken trace.old) (T.faults trace.old)) (sink (T.taken trace.new) (T.faults trace.new)) (D.state disk.old) (D.state disk.new) (D.faults disk.old) (D.faults disk.new) result.status result.journals result.lists }
+    ensures ends { RunEnds (world (S.state input.old) (K.state out.old) (T.state trace.old) (D.state disk.old) (D.faults disk.old)) (world (S.state input.new) (K.state out.new) (T.state trace.new) (D.state disk.new) (D.faults disk.new)) result.status result.journals result.lists }
+    ensures unread { IsOfText result.status → disk.new ≡ disk.old }
 {
-    let script = match read_script(alloc, input) {
-        Ok(script) => script,
+    let commands = match read_script(alloc, input) {
+        Ok(commands) => commands,
         Err(status) => return refused(status),
     };
     let pool = match open(alloc, disk) {
@@ -205,7 +212,7 @@ pub(crate) fn run<S: Source, K: Sink, T: Sink, D: Disk, M: Meet>(
         trace,
         disk,
         pool,
-        script.commands.as_slice(),
+        commands.as_slice(),
         room,
         meet,
     )

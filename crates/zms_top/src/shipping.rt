@@ -5,7 +5,7 @@ ghost use Rattle.trace_text.specs.Traces.{metaslab_trace_text};
 ghost use Rattle.ms_model.specs.Counts.{live_units, deferred_units, vacant_units};
 ghost use Rattle.ms_core.specs.State.{origin_of};
 ghost use Rattle.zms_top.specs.Answers.{paired};
-ghost use Rattle.zms_top.specs.Reporting.{sink, PrintsTo};
+ghost use Rattle.zms_dev.specs.Prints.{Prints};
 ghost use Rattle.zms_top.specs.Ends.{any_device, is_device as names_device, end_status};
 ghost use Rattle.zms_top.specs.Shipping.{HandsOver, IsTally, IsPrinted};
 
@@ -13,15 +13,13 @@ use crate::pool::{ASHIFT, FIRST_METASLAB, Pool};
 use crate::printing::write_run;
 use crate::status::{RunLists, Status};
 use crate::tally::Tally;
-use crate::{Answer, Command, Reply};
+use crate::{Answer, Reply};
+use cmd_text::Command;
 use ms_model::{DeviceNote, Journals, MsJournal};
 use std::alloc::{AllocError, Global};
 use trace_text::write_metaslab_trace;
 use zms_dev::{Failed, Sink};
-use zms_units::{Class, Items};
-
-/// How many data devices a pool has.
-const DEVICES: usize = 16;
+use zms_units::{Class, Items, MAX_DEVICES};
 
 /// The room of the lists that a run hands back, taken before its lanes begin.
 #[derive(Drop)]
@@ -36,8 +34,8 @@ pub(crate) struct Room {
 fn quiet_devices(alloc: Global) -> Result<Vec<Items<DeviceNote>>, AllocError>
     ensures { IfOk result (λ lists. lists.items ≡ replicate 16 []) }
 {
-    let mut lists = Vec::with_capacity(alloc, DEVICES)?;
-    'filling: while lists.len() < DEVICES {
+    let mut lists = Vec::with_capacity(alloc, MAX_DEVICES)?;
+    'filling: while lists.len() < MAX_DEVICES {
         lists.push(Items::new(alloc))?;
     }
     Ok(lists)
@@ -110,7 +108,7 @@ fn has_device(replies: &[Reply]) -> bool
     replies.iter().any(|reply| is_device(&reply.answer))
 }
 
-/// Prints the replies and totals. Takes no memory.
+/// Prints the replies and totals, and hands them on before anything else is written. Takes no memory.
 pub(crate) fn print<K: Sink>(
     out: &mut K,
     pool: &Pool,
@@ -120,7 +118,7 @@ pub(crate) fn print<K: Sink>(
     requires shift { pool.now.metaslab.ashift ≡ 12 }
     requires id { pool.now.metaslab.id ≡ record { vdev = 0; index = 0 } }
     requires each { length commands.now ≡ length replies.now }
-    ensures { IsPrinted pool.now (paired commands.now replies.now) (sink (K.taken out.old) (K.faults out.old)) (sink (K.taken out.new) (K.faults out.new)) result }
+    ensures { IsPrinted pool.now (paired commands.now replies.now) (K.state out.old) (K.state out.new) result }
 {
     let tally = tally_of(pool);
     write_run(out, commands, replies, &[tally], pool.metaslab.settled())
@@ -132,11 +130,12 @@ pub(crate) fn trace_journals<T: Sink>(
     printed: Result<(), Failed>,
     journals: &Journals,
 ) -> Result<(), Failed>
-    ensures traces { OnOk printed (PrintsTo (sink (T.taken trace.old) (T.faults trace.old)) (sink (T.taken trace.new) (T.faults trace.new)) (metaslab_trace_text journals.now) result) }
+    ensures traces { OnOk printed (Prints (T.state trace.old) (T.state trace.new) (metaslab_trace_text journals.now) result) }
     ensures stops { OnErr printed ((trace.new ≡ trace.old) × IsErr result) }
 {
     printed?;
-    write_metaslab_trace(trace, journals)
+    write_metaslab_trace(trace, journals)?;
+    trace.flush()
 }
 
 /// How lanes ended that answered this, and whose texts were written or not.

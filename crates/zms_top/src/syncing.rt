@@ -1,6 +1,7 @@
 //! The command `sync`: the open group is closed and gathered, its record is committed, and it is settled.
 
 ghost use Rattle.std.specs.Prelude.{◌≡◌, ℕ, ◌+◌, ◌^◌, ◌<◌, ◌≤◌, Bool, true, false, not, ◌&&◌, ◌||◌, List, [], ◌∷◌, None, IsSome, IfOk, OnOk, OnErr};
+ghost use Rattle.zms_units.specs.Limits.{IsLane, MAX_COMMANDS};
 ghost use Rattle.zms_units.specs.Segments.{covered, AreSegs};
 ghost use Rattle.ms_model.specs.Gains.{is_gained, is_given};
 ghost use Rattle.ms_model.specs.Gates.{open_group, synced_group};
@@ -8,9 +9,12 @@ ghost use Rattle.zms_units.specs.Runs.{AreMaximalRuns};
 ghost use Rattle.ms_model.specs.declared.notes.Act.TheVariants.{Collect};
 ghost use Rattle.ms_core.specs.State.{origin_of, settled_of, collected_of, noted, StaysButNotes};
 ghost use Rattle.txg_gate.specs.Closings.{closings_of};
+ghost use Rattle.zms_dev.specs.Bytes.{Outside};
 ghost use Rattle.zms_dev.specs.Disk.{Tells};
-ghost use Rattle.zms_top.specs.Record.{is_set, IsStored};
-ghost use Rattle.zms_top.specs.Answers.{first_with};
+ghost use Rattle.zms_dev.specs.Runs.{Spares};
+ghost use Rattle.zms_top.specs.Record.{is_set, record_len, IsStored};
+ghost use Rattle.cmd_text.specs.declared.script.What.TheVariants.{Sync};
+ghost use Rattle.zms_top.specs.Answers.{first_with, synced_after};
 ghost use Rattle.zms_top.specs.Backing.{SyncLine, AreIntervals};
 ghost use Rattle.zms_top.specs.Sound.{ground_of};
 ghost use Rattle.zms_top.specs.Acting.{Acted, IsPool, IsClosed, IsCommitted, IsKept};
@@ -32,7 +36,7 @@ pub(crate) fn gather(
     lane: u8,
     group: Group,
 ) -> Result<(), AllocError>
-    requires lane { (1 ≤ lane) × (lane ≤ 16) }
+    requires lane { IsLane lane }
     requires group { group.0 ≡ collected_of metaslab.old + 1 }
     requires room { 0 < metaslab.old.room }
     ensures allocs { OnOk result (AreMaximalRuns (is_gained group.0 metaslab.old.notes) metaslab.old.units buf.new.allocs.items) }
@@ -69,10 +73,11 @@ fn mark_runs(into: &mut FirstRecord, buf: &RunBuf)
 /// Closes the open group and gathers what it changed into the record. After an error the group may be closed.
 fn close(pool: &mut Pool, lane: u8) -> Result<Group, AllocError>
     requires pool { IsPool pool.old }
-    requires lane { (1 ≤ lane) × (lane ≤ 16) }
+    requires lane { IsLane lane }
     requires no_fault { pool.old.first ≡ None }
-    requires few { closings_of lane pool.old.gate.notes < 200000 }
+    requires few { closings_of lane pool.old.gate.notes < MAX_COMMANDS }
     ensures closed { IfOk result (λ group. IsClosed pool.old pool.new lane group) }
+    ensures err { OnErr result (pool.new.first ≡ pool.old.first) }
     // Whatever is answered.
     ensures stays { StaysButNotes pool.old.metaslab pool.new.metaslab }
     ensures gate { pool.new.gate.opened ≡ pool.old.gate.opened }
@@ -89,14 +94,14 @@ fn close(pool: &mut Pool, lane: u8) -> Result<Group, AllocError>
 
 /// Commits the group that was closed last, and settles it; or keeps the device's fault.
 fn commit<D: Disk>(pool: &mut Pool, disk: &mut D, lane: u8, group: Group) -> Answer
-    requires lane { (1 ≤ lane) × (lane ≤ 16) }
+    requires lane { IsLane lane }
     requires next { group.0 ≡ settled_of pool.old.metaslab + 1 }
     requires collected { group.0 ≤ collected_of pool.old.metaslab }
     requires gate_next { group.0 ≡ synced_group pool.old.gate.opened pool.old.gate.notes + 1 }
     requires gate_closed { group.0 < open_group pool.old.gate.opened pool.old.gate.notes }
     ensures committed { IsCommitted pool.old pool.new lane group (D.faults disk.old) (D.faults disk.new) result }
     ensures leaves { Tells (D.state disk.old) → result ≡ Answer.Done group → (c : List ℕ) → (D.state disk.new).may_leave c → IsStored c group.0 pool.new.record.units pool.new.record.bytes.items }
-    ensures tells { Tells (D.state disk.old) → Tells (D.state disk.new) }
+    ensures spares { Tells (D.state disk.old) → Spares (Outside 0 (record_len pool.old.record.units)) (D.state disk.old) (D.state disk.new) }
     // Whatever is answered.
     ensures stays { StaysButNotes pool.old.metaslab pool.new.metaslab }
     ensures gate { pool.new.gate.opened ≡ pool.old.gate.opened }
@@ -116,13 +121,15 @@ fn commit<D: Disk>(pool: &mut Pool, disk: &mut D, lane: u8, group: Group) -> Ans
 /// alone.
 pub(crate) fn sync<D: Disk>(pool: &mut Pool, disk: &mut D, lane: u8) -> Result<Answer, AllocError>
     requires pool { IsPool pool.old }
-    requires lane { (1 ≤ lane) × (lane ≤ 16) }
-    requires few { closings_of lane pool.old.gate.notes < 200000 }
+    requires lane { IsLane lane }
+    requires few { closings_of lane pool.old.gate.notes < MAX_COMMANDS }
     ensures acted { IfOk result (λ answer. Acted pool.old pool.new lane (SyncLine (ground_of (origin_of pool.old.metaslab)) lane pool.old.first answer)) }
     ensures first { IfOk result (λ answer. pool.new.first ≡ first_with pool.old.first answer) }
+    ensures synced { IfOk result (λ answer. settled_of pool.new.metaslab ≡ synced_after (settled_of pool.old.metaslab) Sync answer) }
     ensures intervals { IfOk result (λ answer. AreIntervals (D.faults disk.old) (D.faults disk.new) (answer ∷ [])) }
     ensures recorded { Tells (D.state disk.old) → IfOk result (λ answer. pool.new.first ≡ None → IsKept (origin_of pool.old.metaslab) pool.old.metaslab.notes pool.new.metaslab.notes (D.state disk.old) (D.state disk.new)) }
-    ensures later { D.faults disk.old ≤ D.faults disk.new }
+    ensures spares { Tells (D.state disk.old) → Spares (Outside 0 (record_len pool.old.record.units)) (D.state disk.old) (D.state disk.new) }
+    ensures err { OnErr result ((disk.new ≡ disk.old) × (pool.new.first ≡ pool.old.first)) }
     // Whatever is answered.
     ensures suspended { IsSome pool.old.first → disk.new ≡ disk.old }
     ensures stays { StaysButNotes pool.old.metaslab pool.new.metaslab }

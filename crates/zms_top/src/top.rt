@@ -1,12 +1,16 @@
 //! The two calls of the program.
 
 ghost use Rattle.std.specs.Prelude.{◌≡◌, ℕ, ◌+◌, ◌^◌, ◌<◌, ◌≤◌, ◌↔◌, List, length, map, string_bytes, None, OnOk, IsErrOf};
+ghost use Rattle.zms_units.specs.Limits.{MAX_UNITS};
 ghost use Rattle.zms_top.specs.Words.{Asks, AsksNothing};
-ghost use Rattle.zms_dev.specs.Causes.{Rose};
+ghost use Rattle.zms_dev.specs.Causes.{HasCauseOf};
+ghost use Rattle.zms_dev.specs.Bytes.{Outside};
 ghost use Rattle.zms_dev.specs.Disk.{Tells};
+ghost use Rattle.zms_dev.specs.Runs.{Spares};
+ghost use Rattle.zms_top.specs.Record.{record_len};
 ghost use Rattle.zms_top.specs.Causes.{Cause, IsHonestRun, IsHonestCreate, IsDone};
-ghost use Rattle.zms_top.specs.Reporting.{sink};
-ghost use Rattle.zms_top.specs.Ends.{RunEnds, CreateEnds, WritesNew, IsEmptyRecord};
+ghost use Rattle.zms_top.specs.World.{world};
+ghost use Rattle.zms_top.specs.Ends.{IsOfText, RunEnds, CreateEnds, WritesNew, IsEmptyRecord};
 ghost use Rattle.zms_top.specs.declared.words.Asked.TheVariants.{Create, Run};
 ghost use Rattle.zms_top.specs.declared.status.Status.TheVariants.{Usage};
 
@@ -22,15 +26,15 @@ use zms_dev::{Data, Disk, Meet, Sink, Source};
 use zms_units::{Group, Items};
 
 /// The group of a new pool.
-const FIRST_GROUP: Group = Group(4);
+const FIRST_GROUP: Group = Group(zms_units::FIRST_GROUP);
 
 /// Writes the record of an empty pool.
 fn store_empty<D: Disk>(alloc: Global, disk: &mut D, units: u32) -> Result<(), StoreFault>
     requires least { 64 ≤ units }
-    requires most { units ≤ 131072 }
+    requires most { units ≤ MAX_UNITS }
     ensures stored { Tells (D.state disk.old) → OnOk result ((c : List ℕ) → (D.state disk.new).may_leave c → IsEmptyRecord c units) }
-    ensures failed { IsErrOf result StoreFault.Failed → Rose (D.faults disk.old) (D.faults disk.new) }
-    ensures later { D.faults disk.old ≤ D.faults disk.new }
+    ensures spares { Tells (D.state disk.old) → Spares (Outside 0 (record_len units)) (D.state disk.old) (D.state disk.new) }
+    ensures cause { HasCauseOf StoreFault.Failed StoreFault.Memory (D.faults disk.old) (D.faults disk.new) result }
     ensures memory { IsErrOf result StoreFault.Memory → disk.new ≡ disk.old }
 {
     let mut record = FirstRecord::empty(alloc, units)?;
@@ -41,8 +45,8 @@ fn store_empty<D: Disk>(alloc: Global, disk: &mut D, units: u32) -> Result<(), S
 /// Writes the record of an empty pool to a device that has none, and says so.
 fn write_new<K: Sink, D: Disk>(alloc: Global, out: &mut K, disk: &mut D, units: u32) -> Status
     requires least { 64 ≤ units }
-    requires most { units ≤ 131072 }
-    ensures { WritesNew units (sink (K.taken out.old) (K.faults out.old)) (sink (K.taken out.new) (K.faults out.new)) (D.state disk.old) (D.state disk.new) (D.faults disk.old) (D.faults disk.new) result }
+    requires most { units ≤ MAX_UNITS }
+    ensures { WritesNew units (K.state out.old) (K.state out.new) (D.state disk.old) (D.state disk.new) (D.faults disk.old) (D.faults disk.new) result }
 {
     match store_empty(alloc, disk, units) {
         Err(StoreFault::Memory) => Status::Memory,
@@ -57,8 +61,8 @@ fn write_new<K: Sink, D: Disk>(alloc: Global, out: &mut K, disk: &mut D, units: 
 /// Writes the record of an empty pool, where the device has none.
 fn create<K: Sink, D: Disk>(alloc: Global, out: &mut K, disk: &mut D, units: u32) -> Status
     requires least { 64 ≤ units }
-    requires most { units ≤ 131072 }
-    ensures { CreateEnds units (sink (K.taken out.old) (K.faults out.old)) (sink (K.taken out.new) (K.faults out.new)) (D.state disk.old) (D.state disk.new) (D.faults disk.old) (D.faults disk.new) result }
+    requires most { units ≤ MAX_UNITS }
+    ensures { CreateEnds units (K.state out.old) (K.state out.new) (D.state disk.old) (D.state disk.new) (D.faults disk.old) (D.faults disk.new) result }
 {
     match FirstRecord::read(alloc, disk) {
         Ok(None) => write_new(alloc, out, disk, units),
@@ -82,9 +86,9 @@ pub fn zms_still<K: Sink, D: Disk>(
     out: &mut K,
     meta: D,
 ) -> (Status, D)
-    ensures usage { AsksNothing (map string_bytes words.now) → (result.0 ≡ Usage) × ((K.taken out.new ≡ K.taken out.old) × (result.1 ≡ meta)) }
-    ensures run { Asks (map string_bytes words.now) Run → (result.0 ≡ Usage) × ((K.taken out.new ≡ K.taken out.old) × (result.1 ≡ meta)) }
-    ensures create { (units : ℕ) → Asks (map string_bytes words.now) (Create units) → CreateEnds units (sink (K.taken out.old) (K.faults out.old)) (sink (K.taken out.new) (K.faults out.new)) (D.state meta) (D.state result.1) (D.faults meta) (D.faults result.1) result.0 }
+    ensures usage { AsksNothing (map string_bytes words.now) → (result.0 ≡ Usage) × ((K.state out.new ≡ K.state out.old) × (result.1 ≡ meta)) }
+    ensures run { Asks (map string_bytes words.now) Run → (result.0 ≡ Usage) × ((K.state out.new ≡ K.state out.old) × (result.1 ≡ meta)) }
+    ensures create { (units : ℕ) → Asks (map string_bytes words.now) (Create units) → CreateEnds units (K.state out.old) (K.state out.new) (D.state meta) (D.state result.1) (D.faults meta) (D.faults result.1) result.0 }
 {
     let mut meta = meta;
     match read_words(words) {
@@ -119,12 +123,13 @@ where
     V: Data,
     M: Meet,
     requires { length devices.items ≡ 16 }
-    ensures run { Asks (map string_bytes words.now) Run → RunEnds (S.left input.old) (S.faults input.old) (S.faults input.new) (sink (K.taken out.old) (K.faults out.old)) (sink (K.taken out.new) (K.faults out.new)) (sink (T.taken trace.old) (T.faults trace.old)) (sink (T.taken trace.new) (T.faults trace.new)) (D.state meta) (D.state result.meta) (D.faults meta) (D.faults result.meta) result.status result.journals result.lists }
-    ensures create { (units : ℕ) → Asks (map string_bytes words.now) (Create units) → CreateEnds units (sink (K.taken out.old) (K.faults out.old)) (sink (K.taken out.new) (K.faults out.new)) (D.state meta) (D.state result.meta) (D.faults meta) (D.faults result.meta) result.status }
-    ensures usage { AsksNothing (map string_bytes words.now) → (result.status ≡ Usage) × ((K.taken out.new ≡ K.taken out.old) × (result.meta ≡ meta)) }
-    ensures cause { Cause (map string_bytes words.now) (S.left input.old) (S.faults input.old) (S.faults input.new) (K.faults out.old) (K.faults out.new) (T.faults trace.old) (T.faults trace.new) (D.state meta) (D.faults meta) (D.faults result.meta) result.status }
-    ensures complete_run { IsHonestRun (map string_bytes words.now) (S.left input.old) (S.faults input.old) (S.faults input.new) (K.faults out.old) (K.faults out.new) (T.faults trace.old) (T.faults trace.new) (D.state meta) (D.faults meta) (D.faults result.meta) → IsDone result.status }
-    ensures complete_create { IsHonestCreate (map string_bytes words.now) (K.faults out.old) (K.faults out.new) (D.state meta) (D.faults meta) (D.faults result.meta) → IsDone result.status }
+    ensures run { Asks (map string_bytes words.now) Run → RunEnds (world (S.state input.old) (K.state out.old) (T.state trace.old) (D.state meta) (D.faults meta)) (world (S.state input.new) (K.state out.new) (T.state trace.new) (D.state result.meta) (D.faults result.meta)) result.status result.journals result.lists }
+    ensures create { (units : ℕ) → Asks (map string_bytes words.now) (Create units) → CreateEnds units (K.state out.old) (K.state out.new) (D.state meta) (D.state result.meta) (D.faults meta) (D.faults result.meta) result.status }
+    ensures usage { AsksNothing (map string_bytes words.now) → (result.status ≡ Usage) × ((K.state out.new ≡ K.state out.old) × (result.meta ≡ meta)) }
+    ensures cause { Cause (map string_bytes words.now) (world (S.state input.old) (K.state out.old) (T.state trace.old) (D.state meta) (D.faults meta)) (world (S.state input.new) (K.state out.new) (T.state trace.new) (D.state result.meta) (D.faults result.meta)) result.status }
+    ensures complete_run { IsHonestRun (map string_bytes words.now) (world (S.state input.old) (K.state out.old) (T.state trace.old) (D.state meta) (D.faults meta)) (world (S.state input.new) (K.state out.new) (T.state trace.new) (D.state result.meta) (D.faults result.meta)) → IsDone result.status }
+    ensures complete_create { IsHonestCreate (map string_bytes words.now) (world (S.state input.old) (K.state out.old) (T.state trace.old) (D.state meta) (D.faults meta)) (world (S.state input.new) (K.state out.new) (T.state trace.new) (D.state result.meta) (D.faults result.meta)) → IsDone result.status }
+    ensures unread { IsOfText result.status → result.meta ≡ meta }
     ensures input { (Asks (map string_bytes words.now) Run → ⊥) → (input.new ≡ input.old) × ((result.journals ≡ None) × (result.lists ≡ None)) }
     ensures devices { result.devices ≡ devices.items }
     ensures trace { (Asks (map string_bytes words.now) Run → ⊥) → trace.new ≡ trace.old }

@@ -1,10 +1,13 @@
 //! The words of the command line, read by hand: each form is what its words are (`specs/Words.antt`).
 
-ghost use Rattle.std.specs.Prelude.{◌≡◌, ℕ, ◌≤◌, List, ◌∷◌, ◌↔◌, map, string_bytes, Some, IsTrue, IsSome, IfSome, IfNone};
-ghost use Rattle.zms_top.specs.Words.{Asks, AsksNothing, IsPoolName, IsSecond, spec_text};
+ghost use Rattle.std.specs.Prelude.{◌≡◌, ℕ, ◌≤◌, List, ◌∷◌, ◌++◌, ◌↔◌, map, string_bytes, Some, IsTrue, IsSome, IfSome, IfNone};
+ghost use Rattle.std.specs.List.{list_all};
+ghost use Rattle.zms_units.specs.Limits.{IsUnitCount};
+ghost use Rattle.zms_top.specs.Words.{is_pool_byte, Asks, AsksNothing, IsPoolName, IsSecond, spec_text};
 ghost use Rattle.zms_top.specs.declared.words.Asked.{Asked};
 
-use crate::script::fields::{after, are_pool_bytes, before, number};
+use cmd_text::fields::{is_digit, is_lowercase, number};
+use zms_units::{MAX_UNITS, MIN_UNITS};
 
 /// What the words of the command line ask for.
 #[derive(Clone, Copy, Debug, PartialEq, Eq)]
@@ -15,8 +18,28 @@ pub enum Asked {
     Run,
 }
 
-/// The fewest units of a metaslab.
-const MIN_UNITS: u64 = 64;
+/// What stands behind `head`, where the text begins with it.
+fn after<'a>(text: &'a [u8], head: &[u8]) -> Option<&'a [u8]>
+    ensures some { IfSome result (λ rest. head.now ++ rest.now ≡ text.now) }
+    ensures none { IfNone result ((rest : List ℕ) → head.now ++ rest ≡ text.now → ⊥) }
+{
+    text.strip_prefix(head)
+}
+
+/// What stands before `tail`, where the text ends with it.
+fn before<'a>(text: &'a [u8], tail: &[u8]) -> Option<&'a [u8]>
+    ensures some { IfSome result (λ front. front.now ++ tail.now ≡ text.now) }
+    ensures none { IfNone result ((front : List ℕ) → front ++ tail.now ≡ text.now → ⊥) }
+{
+    text.strip_suffix(tail)
+}
+
+/// Is each byte one of a pool's name?
+fn are_pool_bytes(bytes: &[u8]) -> bool
+    ensures { result ≡ list_all is_pool_byte bytes.now }
+{
+    bytes.iter().all(|b| is_lowercase(*b) || is_digit(*b) || *b == b'_' || *b == b'.' || *b == b'/')
+}
 
 /// Is this a pool's name: 1 to 64 bytes of a to z, 0 to 9, `_`, `.` and `/`?
 fn is_pool_name(name: &[u8]) -> bool
@@ -27,11 +50,11 @@ fn is_pool_name(name: &[u8]) -> bool
 
 /// The units of a vdev `normal:12:UNITS:1`, 64 to 131072 of them.
 fn units_of_spec(spec: &[u8]) -> Option<u32>
-    ensures some { IfSome result (λ units. (spec_text units ≡ spec.now) × ((64 ≤ units) × (units ≤ 131072))) }
-    ensures none { IfNone result ((units : ℕ) → 64 ≤ units → units ≤ 131072 → spec_text units ≡ spec.now → ⊥) }
+    ensures some { IfSome result (λ units. (spec_text units ≡ spec.now) × IsUnitCount units) }
+    ensures none { IfNone result ((units : ℕ) → MIN_UNITS ≤ units → units ≤ MAX_UNITS → spec_text units ≡ spec.now → ⊥) }
 {
     let units = number(before(after(spec, b"normal:12:")?, b":1")?)?;
-    if MIN_UNITS <= units && units <= 131_072 {
+    if MIN_UNITS as u64 <= units && units <= MAX_UNITS as u64 {
         Some(units as u32)
     } else {
         None

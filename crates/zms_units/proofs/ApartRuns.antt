@@ -5,7 +5,8 @@ use Rattle.std.proofs.lemmas.Bool.Decides.{nat_tests}
 use Rattle.zms_units.specs.declared.segments.Seg.{Seg}
 use Rattle.zms_units.specs.Segments.{end_of, covers, covered, Covers}
 use Rattle.zms_units.specs.Apart.{AreApartFrom}
-use Rattle.zms_units.proofs.UnitTests.{covers_true, covers_yes, covers_low, covers_high, or_none, or_left, or_right, or_rest, cut_head, cut_tail, cut_whole, split_covers, true_or_false, le_or, same_not}
+use Rattle.zms_units.proofs.Bools.{or_none, or_left, or_right, or_rest, cut_head, cut_tail, cut_whole, true_or_false, le_or, same_not}
+use Rattle.zms_units.proofs.Covers.{covers_true, covers_yes, covers_low, covers_high, split_covers}
 
 pub apart_order : (low next : ℕ) (runs : List Seg) → AreApartFrom low next runs → low ≤ next
 apart_order low next [] a = a

@@ -1,19 +1,19 @@
 -- How many units a set has: unions of sets that are apart, intervals, runs.
-use Rattle.std.proofs.Common.{◌≡◌, ℕ, zero, suc, ◌+◌, ◌-◌, ◌≤◌, ◌<◌, Bool, true, false, cond, List, [], ◌∷◌, length, get_or, take, refl, ◌∙◌, arith, ◌⊎◌, inl, inr, min, max}
+use Rattle.std.proofs.Common.{◌≡◌, ℕ, zero, suc, ◌+◌, ◌-◌, ◌≤◌, ◌<◌, Bool, true, false, cond, List, [], ◌∷◌, length, refl, subst, ◌∙◌, arith, ◌⊎◌, inl, inr, min, max}
 use Rattle.std.specs.Prelude.{◌||◌, ◌&&◌, not}
 use Rattle.std.specs.List.{count_by, range_with_len}
 use Rattle.std.proofs.lemmas.List.Sums.{sum_by-cons, count_by-le-length}
 use Rattle.std.proofs.lemmas.List.FromFn.{length-range_with_len}
-use Rattle.std.proofs.lemmas.List.Folds.{list_any_more}
 use Rattle.zms_units.specs.declared.segments.Seg.{Seg}
-use Rattle.zms_units.specs.Segments.{end_of, covers, covered, AreRisingFrom}
+use Rattle.zms_units.specs.Segments.{end_of, covers, covered, total_of, AreRisingFrom}
 use Rattle.zms_units.specs.Runs.{units_in, has_before, begins_run, run_count}
 use Rattle.zms_units.specs.Apart.{AreApartFrom}
-use Rattle.zms_units.proofs.UnitTests.{covers_true, covers_yes, covers_low, covers_high, le_or, same_not}
-use Rattle.zms_units.proofs.RisingSegs.{rising_at, rising_front}
+use Rattle.zms_units.proofs.Bools.{le_or}
+use Rattle.zms_units.proofs.Covers.{covers_true, covers_yes, covers_low, covers_high}
+use Rattle.zms_units.proofs.RisingSegs.{rising_order, rising_below}
 use Rattle.zms_units.proofs.ApartRuns.{apart_below, apart_order}
 
-count_cons : {A : Type 0} (p : A → Bool) (x : A) (xs : List A) → count_by p (x ∷ xs) ≡ cond (p x) 1 0 + count_by p xs
+pub count_cons : {A : Type 0} (p : A → Bool) (x : A) (xs : List A) → count_by p (x ∷ xs) ≡ cond (p x) 1 0 + count_by p xs
 count_cons p x xs = sum_by-cons (λ y. cond (p y) 1 0) x xs
 
 pub count_same : (p q : ℕ → Bool) → ((u : ℕ) → p u ≡ q u) → (xs : List ℕ) → count_by p xs ≡ count_by q xs
@@ -48,6 +48,25 @@ count_same_below p q low (suc n) same =
 
 pub units_same_below : (p q : ℕ → Bool) (units : ℕ) → ((u : ℕ) → u < units → p u ≡ q u) → units_in p units ≡ units_in q units
 units_same_below p q units same = count_same_below p q 0 units (λ u h l. same u (omega arith))
+
+-- one unit more
+count_more : (p : ℕ → Bool) (low n next at : ℕ) → n + 1 ≡ next → low + n ≡ at → count_by p (range_with_len low next) ≡ count_by p (range_with_len low n) + cond (p at) 1 0
+count_more p low zero zero at e f = absurd (omega arith)
+count_more p low zero (suc zero) at e f =
+    let same : low ≡ at = omega arith in
+    subst (λ k. count_by p (range_with_len low 1) ≡ count_by p (range_with_len low 0) + cond (p k) 1 0) same (omega (arith, count_cons p low (range_with_len (low + 1) 0)))
+count_more p low zero (suc (suc next)) at e f = absurd (omega arith)
+count_more p low (suc n) zero at e f = absurd (omega arith)
+count_more p low (suc n) (suc next) at e f =
+    omega (
+      arith,
+      count_cons p low (range_with_len (low + 1) next),
+      count_cons p low (range_with_len (low + 1) n),
+      count_more p (low + 1) n next at (omega arith) (omega arith),
+    )
+
+pub units_more : (p : ℕ → Bool) (n : ℕ) → units_in p (n + 1) ≡ units_in p n + cond (p n) 1 0
+units_more p n = count_more p 0 n (n + 1) n (omega arith) (omega arith)
 
 pub units_or : (p q : ℕ → Bool) (units : ℕ) → ((u : ℕ) → p u ≡ true → q u ≡ false) → units_in (λ u. p u || q u) units ≡ units_in p units + units_in q units
 units_or p q units apart = count_or p q apart (range_with_len 0 units)
@@ -144,17 +163,15 @@ run_count_same p q units same = units_same (begins_run p) (begins_run q) units (
   begins_same zero = rw (same 0)
   begins_same (suc v) = rw (same (suc v), same v)
 
--- the units of one segment more
-pub units_next : (units : ℕ) (segs : List Seg) (k : ℕ) (d : Seg) → AreRisingFrom 0 units segs → k < length segs
-    → units_in (covered (take (k + 1) segs)) units ≡ units_in (covered (take k segs)) units + (get_or segs k d).count
-units_next units segs k d a l =
-    let seg = get_or segs k d in
-    let t = rising_at 0 units segs k d a l in
-    let e : units_in (covered (take (k + 1) segs)) units ≡ units_in (λ u. covered (take k segs) u || covers seg u) units =
-    units_same _ _ units (λ u. list_any_more (λ s. covers s u) segs k d l) in
-    let f : units_in (λ u. covered (take k segs) u || covers seg u) units ≡ units_in (covered (take k segs)) units + units_in (covers seg) units =
-    units_or (covered (take k segs)) (covers seg) units (λ u c. outside_of u c (le_or seg.start u)) in
-    omega (arith, units_seg seg units t.2) where
-      outside_of : (u : ℕ) → covered (take k segs) u ≡ true → ((get_or segs k d).start ≤ u) ⊎ (u < (get_or segs k d).start) → covers (get_or segs k d) u ≡ false
-      outside_of u c (inl h) = absurd (same_not c (rising_front 0 units segs k d a l u h))
-      outside_of u c (inr h) = covers_low (get_or segs k d) u h
+-- segments that rise cover as many units as they have
+
+pub rising_total : (low high : ℕ) (segs : List Seg) → AreRisingFrom low high segs → low + total_of segs ≤ high
+rising_total low high [] a = omega arith
+rising_total low high (s ∷ ss) a = omega (arith, sum_by-cons (λ (t : Seg). t.count) s ss, rising_total (end_of s) high ss a.1.1)
+
+pub rising_units : (low units : ℕ) (segs : List Seg) → AreRisingFrom low units segs → units_in (covered segs) units ≡ total_of segs
+rising_units low units [] a = units_none (covered []) units (λ u. refl)
+rising_units low units (s ∷ ss) a =
+    let f : units_in (covered (s ∷ ss)) units ≡ units_in (covers s) units + units_in (covered ss) units =
+    units_or (covers s) (covered ss) units (λ u c. let h = covers_true s u c in rising_below (end_of s) units ss a.1.1 u (omega arith)) in
+    omega (arith, sum_by-cons (λ (t : Seg). t.count) s ss, units_seg s units (rising_order (end_of s) units ss a.1.1), rising_units (end_of s) units ss a.1.1)

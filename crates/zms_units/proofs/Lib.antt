@@ -1,4 +1,6 @@
-pub mod UnitTests
+pub mod Bools
+pub mod Covers
+pub mod CursorPlaces
 pub mod RisingSegs
 pub mod ApartRuns
 pub mod Counting

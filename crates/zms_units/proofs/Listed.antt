@@ -7,7 +7,7 @@ use Rattle.zms_units.specs.declared.segments.Seg.{Seg}
 use Rattle.zms_units.specs.Segments.{covered}
 use Rattle.zms_units.specs.Apart.{AreApartFrom}
 use Rattle.zms_units.specs.Runs.{IsMaximalRun, IsLongFrom, IsFirstFrom, NoneFrom, IsBest, IsLargest}
-use Rattle.zms_units.proofs.UnitTests.{true_and, le_or, same_not}
+use Rattle.zms_units.proofs.Bools.{true_and, le_or, same_not}
 use Rattle.zms_units.proofs.Maximal.{start_mono, maximal_at, maximal_is_at, IsAt}
 use Rattle.zms_units.proofs.Scans.{count_of, IsFirstAt, find_first, find_none, HasLength, longest_bounds, longest_met, IsLeast, shortest_found, shortest_none}
 

@@ -4,7 +4,8 @@ use Rattle.zms_units.specs.declared.segments.Seg.{Seg}
 use Rattle.zms_units.specs.Segments.{end_of, covers, covered, Covers, AreRisingFrom}
 use Rattle.zms_units.specs.Runs.{IsMaximalRun, AreMaximalRuns}
 use Rattle.zms_units.specs.Apart.{AreApartFrom}
-use Rattle.zms_units.proofs.UnitTests.{le_or, same_not, or_cases, covers_true}
+use Rattle.zms_units.proofs.Bools.{le_or, same_not, or_cases}
+use Rattle.zms_units.proofs.Covers.{covers_true}
 use Rattle.zms_units.proofs.ApartRuns.{apart_order, apart_at, gap_before, gap_after, covered_at, LiesIn, lies_in}
 
 rising_of : (low low' units : ℕ) (runs : List Seg) → AreApartFrom low' (units + 1) runs → low ≤ low' → low ≤ units → AreRisingFrom low units runs

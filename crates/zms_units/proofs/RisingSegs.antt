@@ -2,7 +2,8 @@
 use Rattle.std.proofs.Common.{◌≡◌, ℕ, zero, suc, ◌≤◌, ◌<◌, false, List, [], ◌∷◌, length, get_or, take, drop, refl, arith}
 use Rattle.zms_units.specs.declared.segments.Seg.{Seg}
 use Rattle.zms_units.specs.Segments.{end_of, covers, covered, AreRisingFrom}
-use Rattle.zms_units.proofs.UnitTests.{covers_low, covers_high, or_none}
+use Rattle.zms_units.proofs.Bools.{or_none}
+use Rattle.zms_units.proofs.Covers.{covers_low, covers_high}
 
 pub rising_order : (low high : ℕ) (segs : List Seg) → AreRisingFrom low high segs → low ≤ high
 rising_order low high [] a = a

@@ -3,7 +3,7 @@ use Rattle.std.proofs.Common.{◌≡◌, ℕ, zero, suc, ◌+◌, ◌-◌, ◌�
 use Rattle.zms_units.specs.declared.segments.Seg.{Seg}
 use Rattle.zms_units.specs.Segments.{end_of, Covers}
 use Rattle.zms_units.specs.Runs.{IsMaximalRun, NoneInRow, NoneFrom}
-use Rattle.zms_units.proofs.UnitTests.{le_or, same_not, true_or_false}
+use Rattle.zms_units.proofs.Bools.{le_or, same_not, true_or_false}
 
 -- the set holds each unit from one to another, and not the one before
 record Begins (set : ℕ → Bool) (u : ℕ) : Type 0 where

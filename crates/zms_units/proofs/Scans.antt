@@ -4,7 +4,7 @@ use Rattle.std.specs.Prelude.{nat_le, find, fold}
 use Rattle.std.specs.List.{filter, reduce}
 use Rattle.std.proofs.lemmas.Bool.{leb-true, leb-false}
 use Rattle.zms_units.specs.declared.segments.Seg.{Seg}
-use Rattle.zms_units.proofs.UnitTests.{le_or}
+use Rattle.zms_units.proofs.Bools.{le_or}
 
 abbrev pub count_of : Seg → ℕ
 count_of run = run.count

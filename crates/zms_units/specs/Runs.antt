@@ -2,6 +2,7 @@
 use Rattle.std.specs.Prelude.{◌≡◌, ℕ, zero, suc, ◌+◌, ◌*◌, ◌^◌, ◌<◌, ◌≤◌, ◌⊎◌, ◌&&◌, not, Bool, true, false, List}
 use Rattle.std.specs.List.{All, count_by, range_with_len}
 use Rattle.zms_units.specs.declared.segments.Seg.{Seg}
+use Rattle.zms_units.specs.Limits.{AMPLE_BYTES, AMPLE_SHARE}
 use Rattle.zms_units.specs.Segments.{end_of, Covers, covered, AreSegs}
 
 -- a set of the units 0 to range-1
@@ -70,12 +71,12 @@ pub record IsLargest (set : ℕ → Bool) (units largest : ℕ) : Type 0 where
   pub bounds : (run : Seg) → IsMaximalRun set units run → run.count ≤ largest
   pub met : 0 < largest → (run : Seg) × (IsMaximalRun set units run × (run.count ≡ largest))
 
--- space is ample where some run has 131072 bytes and at least one unit in 25 is in the set
+-- space is ample where some run has enough bytes, 131072, and at least one unit in 25 is in the set
 pub record IsAmple (set : ℕ → Bool) (units ashift : ℕ) : Type 0 where
   pub run : Seg
   pub maximal : IsMaximalRun set units run
-  pub long : 131072 ≤ run.count * 2 ^ ashift
-  pub share : units ≤ 25 * units_in set units
+  pub long : AMPLE_BYTES ≤ run.count * 2 ^ ashift
+  pub share : units ≤ AMPLE_SHARE * units_in set units
 
 -- the first run that is long enough at or after the cursor, or else from the range's start
 abbrev pub IsNext : (ℕ → Bool) → ℕ → ℕ → ℕ → Seg → Type 0

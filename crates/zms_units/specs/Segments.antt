@@ -1,5 +1,5 @@
 use Rattle.std.specs.Prelude.{ℕ, ◌+◌, ◌<◌, ◌≤◌, Bool, ◌&&◌, nat_le, nat_lt, List, [], ◌∷◌}
-use Rattle.std.specs.List.{list_any}
+use Rattle.std.specs.List.{list_any, sum_by}
 use Rattle.zms_units.specs.declared.segments.Seg.{Seg}
 
 -- the unit just past a segment
@@ -17,6 +17,10 @@ Covers seg u = (seg.start ≤ u) × (u < end_of seg)
 -- does some segment of a list cover a unit? A list of segments stands for the set of units that it covers
 abbrev pub covered : List Seg → ℕ → Bool
 covered segs u = list_any (λ seg. covers seg u) segs
+
+-- how many units segments have together
+abbrev pub total_of : List Seg → ℕ
+total_of segs = sum_by (λ (seg : Seg). seg.count) segs
 
 -- segments that are not empty, rise, do not overlap, begin at or after a unit, and end at or before another
 abbrev pub AreRisingFrom : ℕ → ℕ → List Seg → Type 0

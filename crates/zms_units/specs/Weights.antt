@@ -1,8 +1,9 @@
 -- How many runs of each length a set of units has, and the weight that this gives, by which metaslabs are compared.
 use Rattle.std.specs.Prelude.{◌≡◌, ℕ, ◌+◌, ◌*◌, ◌/◌, ◌^◌, ◌<◌, ◌≤◌, ◌⊎◌, ◌&&◌, Bool, nat_le, nat_lt, List, slice_index}
 use Rattle.std.specs.List.{count_by}
-use Rattle.zms_units.specs.declared.places.Histogram.{Histogram}
+use Rattle.zms_units.specs.declared.histograms.Histogram.{Histogram}
 use Rattle.zms_units.specs.declared.segments.Seg.{Seg}
+use Rattle.zms_units.specs.Limits.{BUCKETS}
 use Rattle.zms_units.specs.Runs.{AreMaximalRuns}
 
 -- is this bit the highest set bit of a run's length in bytes?
@@ -13,10 +14,11 @@ is_in_bucket ashift bucket run = nat_le (2 ^ bucket) (run.count * 2 ^ ashift) &&
 pub record IsHistogramOf (set : ℕ → Bool) (units ashift : ℕ) (hist : Histogram) : Type 0 where
   pub runs : List Seg
   pub maximal : AreMaximalRuns set units runs
-  pub counts : (bucket : ℕ) → bucket < 64 → slice_index hist.runs bucket ≡ count_by (is_in_bucket ashift bucket) runs
+  pub counts : (bucket : ℕ) → bucket < BUCKETS → slice_index hist.runs bucket ≡ count_by (is_in_bucket ashift bucket) runs
 
 -- the greatest bucket that is not empty
 pub record IsGreatest (hist : Histogram) (bucket : ℕ) : Type 0 where
+  pub within : bucket < BUCKETS
   pub some : 0 < slice_index hist.runs bucket
   pub above : (other : ℕ) → bucket < other → slice_index hist.runs other ≡ 0
 

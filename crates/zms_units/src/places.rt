@@ -1,3 +1,6 @@
+ghost use Rattle.std.specs.Prelude.{◌≡◌};
+ghost use Rattle.zms_units.specs.Classes.{class_word};
+
 /// An allocation class, after `metaslab_class_t`: what a vdev's space is kept for.
 #[derive(Clone, Copy, Debug, Default, PartialEq, Eq)]
 pub enum Class {
@@ -6,6 +9,20 @@ pub enum Class {
     Log,
     Special,
     Dedup,
+}
+
+impl Class {
+    /// The class's word in texts.
+    pub fn word(self) -> &'static str
+        ensures { result.now ≡ class_word self }
+    {
+        match self {
+            Class::Normal => "normal",
+            Class::Log => "log",
+            Class::Special => "special",
+            Class::Dedup => "dedup",
+        }
+    }
 }
 
 /// Names a metaslab: the vdev's number in the pool, and the metaslab's number on that vdev, both from 0.
@@ -23,11 +40,4 @@ pub struct VdevRow {
     pub ashift: u8,
     pub units: u32,
     pub metaslabs: u16,
-}
-
-/// How many free runs there are of each size: `runs[b]` counts those whose length in bytes has bit `b` as its
-/// highest set bit. After `range_tree_stat` and the histograms that `zdb -m` prints.
-#[derive(Clone, Copy, Debug, PartialEq, Eq)]
-pub struct Histogram {
-    pub runs: [u32; 64],
 }

@@ -1,11 +1,10 @@
 ghost use Rattle.std.specs.Prelude.{◌≡◌, ℕ, ◌+◌, ◌≤◌, ◌&&◌, ◌==◌, fold, nat_le, IfSome, IfNone, map, find, unwrap_or, min, max};
 ghost use Rattle.std.specs.List.{filter, reduce};
 ghost use Rattle.zms_units.specs.Apart.{AreApartFrom};
-ghost use Rattle.zms_units.specs.Runs.{units_in};
-ghost use Rattle.zms_units.specs.Segments.{covered, AreSegs};
+ghost use Rattle.zms_units.specs.Segments.{covered};
 ghost use Rattle.zms_units.specs.declared.segments.Seg.{Seg};
 
-use crate::{FreeRuns, Seg};
+use crate::{FreeRuns, Seg, unit_count};
 use std::marker::Model;
 
 /// Free runs as a list that someone else keeps: rising, and with a unit between each and the next.
@@ -47,7 +46,9 @@ impl FreeRuns for PlainRuns<'_> {
     }
 
     fn units(&self) -> u32 {
-        unit_count(self.runs, self.range)
+        // Read for its type's bound, which the sum keeps.
+        let _range = self.range;
+        unit_count(self.runs)
     }
 
     fn largest(&self) -> u32 {
@@ -78,18 +79,6 @@ fn first_of(runs: &[Seg], count: u32) -> Option<Seg>
     ensures { result ≡ find (λ (run : Seg). run.count == count) runs.now }
 {
     runs.iter().copied().find(|run| run.count == count)
-}
-
-/// How many units the segments cover.
-fn unit_count(segs: &[Seg], units: u32) -> u32
-    requires segs { AreSegs units segs.now }
-    ensures { result ≡ units_in (covered segs.now) units }
-{
-    let mut count = 0;
-    for seg in segs {
-        count += seg.count;
-    }
-    count
 }
 
 /// The greatest length.

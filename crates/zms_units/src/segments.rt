@@ -1,9 +1,7 @@
-ghost use Rattle.std.specs.Prelude.{Some, decimal};
+ghost use Rattle.std.specs.Prelude.{◌≡◌, ◌<◌, ◌^◌, Some, decimal};
+ghost use Rattle.zms_units.specs.Segments.{total_of};
 
 use std::fmt;
-
-/// The most units that a metaslab may have.
-pub const MAX_UNITS: u32 = 131_072;
 
 /// A segment of a metaslab: the units `start` to `start + count - 1`, counted from the metaslab's start.
 ///
@@ -25,4 +23,12 @@ impl fmt::Display for Group {
         let number = self.0;
         write!(f, "{number}")
     }
+}
+
+/// How many units the segments have together.
+pub fn unit_count(segs: &[Seg]) -> u32
+    requires { total_of segs.now < 2 ^ 32 }
+    ensures { result ≡ total_of segs.now }
+{
+    segs.iter().map(|seg| seg.count).sum()
 }

@@ -49,7 +49,8 @@ pub fn cover(file: &mut [u8], at: u64, len: u64, fill: u8)
 
 /// Fills up to the end of a range with a byte, where the bytes end before it.
 pub fn extend(file: &mut Vec<u8>, at: u64, len: usize, fill: u8) -> Result<(), AllocError>
-    ensures { OnOk result ((added : ℕ) × (file.new.items ≡ file.old.items ++ replicate added fill)) }
+    ensures added { OnOk result ((added : ℕ) × (file.new.items ≡ file.old.items ++ replicate added fill)) }
+    ensures reaches { OnOk result (at + len ≤ length file.new.items) }
 {
     let end = (at as usize).checked_add(len).ok_or(AllocError)?;
     if end > file.len() {

@@ -1,5 +1,6 @@
 // What a stop may leave of a pool device in memory, as bytes.
 ghost use Rattle.std.specs.Prelude.{◌≡◌, ℕ, ◌+◌, ◌<◌, ◌≤◌, List, length, take, drop, map, false, IfOk, OnOk, slice_index_or};
+ghost use Rattle.zms_dev.specs.Bytes.{byte, Outside, Torn};
 ghost use Rattle.zms_dev.specs.History.{Stage, start, next, after, IsImage};
 ghost use Rattle.zms_dev.specs.MemoryDisk.{step_of};
 ghost use Rattle.zms_dev.specs.Stop.{Filled, IsAtRest, has_flushed, LeavesBytes};
@@ -150,6 +151,17 @@ fn tear_all(
     Ok(())
 }
 
+// The byte in all of a range.
+fn tear_range(image: &mut Vec<u8>, at: u64, len: usize, fill: u8) -> Result<(), AllocError>
+    ensures torn { OnOk result (Torn (Outside at len) image.old.items image.new.items) }
+    ensures reaches { OnOk result (at + len ≤ length image.new.items) }
+    ensures filled { OnOk result ((p : ℕ) → at ≤ p → p < at + len → byte image.new.items p ≡ fill) }
+{
+    extend(image, at, len, fill)?;
+    cover(image, at, len as u64, fill);
+    Ok(())
+}
+
 // One call on, with the byte in all of its range.
 fn tear(image: &mut Vec<u8>, written: &[u8], made: &CallRecord, fill: u8) -> Result<(), AllocError>
     requires { has_flushed made.now ≡ false }
@@ -159,10 +171,9 @@ fn tear(image: &mut Vec<u8>, written: &[u8], made: &CallRecord, fill: u8) -> Res
     if let Call::Write { at, len, from } = made.call {
         if made.went_well {
             let len = piece(written, from, len).len();
-            extend(image, at, len, fill)?;
-            cover(image, at, len as u64, fill);
+            tear_range(image, at, len, fill)?;
         } else {
-            cover(image, at, len as u64, fill);
+            tear_range(image, at, len, fill)?;
         }
     }
     Ok(())

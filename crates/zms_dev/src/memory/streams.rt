@@ -1,5 +1,5 @@
 // Streams in memory.
-ghost use Rattle.std.specs.Prelude.{◌≡◌, ◌+◌, ◌++◌, [], min, length, is_ok, IfOk, OnErr, nat_le, ◌&&◌};
+ghost use Rattle.std.specs.Prelude.{◌≡◌, ◌+◌, ◌++◌, [], min, length, is_ok, IsOk, IfOk, OnErr, nat_le, ◌&&◌};
 ghost use Rattle.zms_dev.specs.Script.{fresh, allows, after_call};
 ghost use Rattle.zms_dev.specs.Stream.{Takes};
 
@@ -56,9 +56,7 @@ impl MemSource {
 impl Source for MemSource {
     ghost use Rattle.std.specs.Prelude.{Some};
 
-    ghost left = { λ s. Some s.left };
-
-    ghost faults = { λ s. s.script.faults };
+    ghost state = { λ s. record { left = Some s.left; faults = s.script.faults } };
 
     fn read(&mut self, buf: &mut [u8]) -> Result<usize, Failed>
         ensures answer { is_ok result ≡ allows self.old.script }
@@ -125,9 +123,7 @@ impl MemSink {
 impl Sink for MemSink {
     ghost use Rattle.std.specs.Prelude.{Some};
 
-    ghost taken = { λ s. Some s.taken };
-
-    ghost faults = { λ s. s.script.faults };
+    ghost state = { λ s. record { taken = Some s.taken; faults = s.script.faults } };
 
     fn write(&mut self, bytes: &[u8]) -> Result<usize, Failed>
         ensures answer { is_ok result ≡ (allows self.old.script && nat_le (length self.old.taken + length bytes.now) self.old.room) }
@@ -140,5 +136,13 @@ impl Sink for MemSink {
             .call(bytes.len() <= self.room - self.taken.len())?;
         let _ = self.taken.extend_from_slice(bytes);
         Ok(bytes.len())
+    }
+
+    // It keeps what it takes, and has nothing to hand on.
+    fn flush(&mut self) -> Result<(), Failed>
+        ensures done { IsOk result }
+        ensures same { self.new ≡ self.old }
+    {
+        Ok(())
     }
 }

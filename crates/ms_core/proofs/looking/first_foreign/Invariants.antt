@@ -1,7 +1,5 @@
 use Rattle.std.proofs.Common.{◌≡◌, ℕ, ◌-◌, ◌<◌, ◌≤◌, Some}
-use Rattle.ms_model.specs.Origin.{Origin}
-use Rattle.ms_model.specs.Units.{granted, last_act}
-use Rattle.ms_model.specs.Legal.{IsLegal}
+use Rattle.ms_core.proofs.Words.{Origin, granted, last_act, IsLegal}
 use Rattle.ms_core.proofs.looking.first_foreign.Given as goal
 
 abbrev pub invariant-loop-at : goal.invariant-loop-at

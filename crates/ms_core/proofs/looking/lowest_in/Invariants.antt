@@ -1,5 +1,5 @@
 use Rattle.std.proofs.Common.{take}
-use Rattle.ms_core.specs.Asked.{Finds, in_any}
+use Rattle.ms_core.proofs.Words.{Finds, in_any}
 use Rattle.ms_core.proofs.looking.lowest_in.Given as goal
 
 abbrev pub invariant-loop-tree : goal.invariant-loop-tree

@@ -1,6 +1,5 @@
 use Rattle.std.proofs.Common.{◌≡◌, ℕ, ◌+◌, ◌<◌, ◌≤◌, take, length}
-use Rattle.ms_model.specs.Origin.{Origin}
-use Rattle.ms_model.specs.Units.{last_act}
+use Rattle.ms_core.proofs.Words.{Origin, last_act}
 use Rattle.ms_core.proofs.looking.own_front.Given as goal
 
 abbrev pub invariant-loop-i : goal.invariant-loop-i

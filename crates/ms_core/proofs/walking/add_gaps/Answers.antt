@@ -1,66 +1,67 @@
-use Rattle.std.proofs.Common.{refl, ◌∙◌, arith}
-use Rattle.zms_units.specs.declared.segments.Seg.{Seg}
-use Rattle.ms_core.proofs.Gapping.{gaps_none, seg_within, gap_segment, gap_apart, gaps_touch, gaps_more, gaps_all, gaps_all_above, gaps_full, gaps_full_above}
+use Rattle.std.proofs.Common.{◌≡◌, ◌∙◌, Bool, true, false, take, get_or, refl, sym, ap, arith}
+use Rattle.ms_core.proofs.Words.{◌||◌, ◌&&◌, not, take_all, list_any_more, Seg, covers, covered, covers_yes, covers_high, or_false, rising_at, rising_front}
 use Rattle.ms_core.proofs.walking.add_gaps.Goals as goal
-use Rattle.ms_core.proofs.walking.add_gaps.Goals.{then-next-seg, else-next-seg}
 
 abbrev none : Seg
 none = record { start = 0; count = 0 }
 
-pub loop-seg-init : goal.loop-seg-init
-loop-seg-init g c = record { gaps = gaps_none _ _ _ c.requires.segs c.requires.empty; spare = omega arith; others = λ tree u d. refl }
+and_true : (b : Bool) → (b && true) ≡ b
+and_true true = refl
+and_true false = refl
+
+-- one segment more is taken away
+less : (c a b : Bool) → (not c && (a && not b)) ≡ (a && not (b || c))
+less true true true = refl
+less true true false = refl
+less true false b = refl
+less false a true = refl
+less false true false = refl
+less false false false = refl
 
 pub add-requires-clause-segment : goal.add-requires-clause-segment
-add-requires-clause-segment g c =
-    gap_segment c.loop-seg.next _ c.args.units c.if-next-seg.true
-    (omega (arith, seg_within _ _ _ _ _ none c.loop-seg-test.true c.loop-seg.invariant.gaps)) c.requires.most
+add-requires-clause-segment g c = record { some = c.requires.units.0; within = omega (arith, c.requires.units.1) }
 
-pub add-requires-clause-apart : goal.add-requires-clause-apart
-add-requires-clause-apart g c = gap_apart _ _ _ _ _ _ c.loop-seg.invariant.gaps
+pub loop-seg-init : goal.loop-seg-init
+loop-seg-init g c = record {
+  gaps = λ u. c.add.ensures.added u ∙ (ap (λ b. covers (record { start = 0; count = c.args.units }) u || b) (c.requires.empty u) ∙ (or_false _ ∙ sym (and_true _)));
+  spare = omega (arith, c.add.ensures.spare);
+  memory = c.add.ensures.memory;
+  others = c.add.ensures.others;
+}
 
-pub add-requires-clause-spare : goal.add-requires-clause-spare
-add-requires-clause-spare g c = omega (arith, c.loop-seg.invariant.spare, c.requires.spare)
+pub remove-requires-clause-segment : goal.remove-requires-clause-segment
+remove-requires-clause-segment g c =
+    let at = rising_at 0 c.args.units c.args.held.now c.loop-seg.seg-index none c.requires.segs c.loop-seg-test.true in
+    record { some = at.1; within = omega (arith, at.2, c.requires.units.1) }
 
-pub overflow_add-next : goal.overflow_add-next
-overflow_add-next g c = omega (arith, seg_within _ _ _ _ _ none c.loop-seg-test.true c.loop-seg.invariant.gaps)
+pub remove-requires-clause-covered : goal.remove-requires-clause-covered
+remove-requires-clause-covered g c = λ u there.
+    let at = rising_at 0 c.args.units c.args.held.now c.loop-seg.seg-index none c.requires.segs c.loop-seg-test.true in
+    c.loop-seg.invariant.gaps u
+    ∙ rw (covers_yes (record { start = 0; count = c.args.units }) u (omega arith) (omega (arith, at.2, there.1)), rising_front 0 c.args.units c.args.held.now c.loop-seg.seg-index none c.requires.segs c.loop-seg-test.true u there.0) refl
+
+pub remove-requires-clause-spare : goal.remove-requires-clause-spare
+remove-requires-clause-spare g c = omega (arith, c.loop-seg.invariant.spare, c.requires.spare)
 
 pub loop-seg-preserved : goal.loop-seg-preserved
 loop-seg-preserved g c =
     let so_far = c.loop-seg.invariant in
-    let here = c.loop-seg-test.true in
-    elim c.if-next-seg.branch [
-      | then-next-seg w ↦
-          rw w.trees-is
-          (record {
-            gaps = gaps_more _ _ _ _ _ none here so_far.gaps _ w.if-next-seg.true w.add.ensures.added;
-            spare = omega (arith, so_far.spare, w.add.ensures.spare);
-            others = λ tree u d. w.add.ensures.others tree u d ∙ so_far.others tree u d;
-          })
-      | else-next-seg w ↦
-          rw w.trees-is
-          (record { gaps = gaps_touch _ _ _ _ _ none here so_far.gaps w.if-next-seg.false; spare = omega (arith, so_far.spare); others = so_far.others })
-    ]
+    let held = c.args.held.now in
+    let i = c.loop-seg.seg-index in
+    record {
+      gaps = λ u. c.remove.ensures.removed u
+          ∙ (ap (λ b. not (covers (get_or held i none) u) && b) (so_far.gaps u)
+          ∙ (less (covers (get_or held i none) u) (covers (record { start = 0; count = c.args.units }) u) (covered (take i held) u)
+          ∙ ap (λ b. covers (record { start = 0; count = c.args.units }) u && not b) (sym (list_any_more (λ s. covers s u) held i none c.loop-seg-test.true))));
+      spare = omega (arith, so_far.spare, c.remove.ensures.spare);
+      memory = c.remove.ensures.memory ∙ so_far.memory;
+      others = λ tree u d. c.remove.ensures.others tree u d ∙ so_far.others tree u d;
+    }
 
-pub add-requires-then-next-units-clause-segment : goal.add-requires-then-next-units-clause-segment
-add-requires-then-next-units-clause-segment g c = gap_segment c.loop-seg.next c.args.units c.args.units c.if-next-units.true (omega arith) c.requires.most
+pub returns-clause-gaps : goal.returns-clause-gaps
+returns-clause-gaps g c = λ u l.
+    c.loop-seg.invariant.gaps u
+    ∙ rw (covers_yes (record { start = 0; count = c.args.units }) u (omega arith) (omega arith), take_all c.loop-seg.seg-index c.args.held.now c.loop-seg-test.false) refl
 
-pub add-requires-then-next-units-clause-apart : goal.add-requires-then-next-units-clause-apart
-add-requires-then-next-units-clause-apart g c = gap_apart _ _ _ _ _ _ c.loop-seg.invariant.gaps
-
-pub add-requires-then-next-units-clause-spare : goal.add-requires-then-next-units-clause-spare
-add-requires-then-next-units-clause-spare g c = omega (arith, c.loop-seg.invariant.spare, c.requires.spare, c.loop-seg.auto.seg-index-end)
-
-pub returns-then-next-units-clause-gaps : goal.returns-then-next-units-clause-gaps
-returns-then-next-units-clause-gaps g c = gaps_all _ _ _ _ _ _ c.loop-seg-test.false c.loop-seg.invariant.gaps c.if-next-units.true c.add-then-next-units.ensures.added
-
-pub returns-then-next-units-clause-above : goal.returns-then-next-units-clause-above
-returns-then-next-units-clause-above g c = gaps_all_above _ _ _ _ _ _ c.loop-seg.invariant.gaps c.if-next-units.true c.add-then-next-units.ensures.added
-
-pub returns-then-next-units-clause-others : goal.returns-then-next-units-clause-others
-returns-then-next-units-clause-others g c = λ tree u d. c.add-then-next-units.ensures.others tree u d ∙ c.loop-seg.invariant.others tree u d
-
-pub returns-else-next-units-clause-gaps : goal.returns-else-next-units-clause-gaps
-returns-else-next-units-clause-gaps g c = gaps_full _ _ _ _ _ c.loop-seg-test.false c.loop-seg.invariant.gaps c.if-next-units.false
-
-pub returns-else-next-units-clause-above : goal.returns-else-next-units-clause-above
-returns-else-next-units-clause-above g c = gaps_full_above _ _ _ _ _ c.loop-seg-test.false c.loop-seg.invariant.gaps c.if-next-units.false
+pub returns-clause-above : goal.returns-clause-above
+returns-clause-above g c = λ u l. c.loop-seg.invariant.gaps u ∙ rw (covers_high (record { start = 0; count = c.args.units }) u (omega arith)) refl

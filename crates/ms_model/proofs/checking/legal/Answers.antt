@@ -1,5 +1,8 @@
-use Rattle.std.proofs.Common.{refl}
+use Rattle.std.proofs.Common.{◌≡◌, take, refl, subst}
+use Rattle.std.proofs.lemmas.List.{take_all}
+use Rattle.ms_model.specs.Legal.{IsLegal}
 use Rattle.ms_model.proofs.Histories.{legal_none}
+use Rattle.ms_model.proofs.Overlaps.{overlaps_nothing}
 use Rattle.ms_model.proofs.Reflecting.{illegal_at, not_legal, next_legal, next_reflects, lies_at}
 use Rattle.ms_model.proofs.checking.legal.Goals as goal
 
@@ -28,3 +31,8 @@ loop-index-preserved c =
       legal = next_legal _ c.args.notes.now c.loop-index.index _ c.loop-index-test.true c.loop-index.invariant.legal
           ((c.if-not-allows.ensures _ _ c.loop-index.invariant.reflects).holds refl);
     }
+
+pub returns-clause-free : goal.returns-clause-free
+returns-clause-free c =
+    let all : take c.loop-index.index c.args.notes.now ≡ c.args.notes.now = take_all c.loop-index.index c.args.notes.now c.loop-index-test.false in
+    overlaps_nothing _ c.args.notes.now (subst (IsLegal _) all c.loop-index.invariant.legal)

@@ -1,6 +1,6 @@
 use Rattle.std.proofs.Common.{[]}
 use Rattle.ms_model.specs.Parts.{right_of, gate_right}
-use Rattle.ms_model.proofs.Steps.{follows_order}
+use Rattle.lane_steps.proofs.Steps.{follows_order}
 use Rattle.ms_model.proofs.laws.places_never_fall.Goals as goal
 
 pub returns : goal.returns

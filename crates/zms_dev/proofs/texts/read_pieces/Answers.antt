@@ -9,10 +9,10 @@ loop-taken-preserved g c =
     record {
       within = omega (arith, was.within, c.in_ok-n.ensures.bound, c.loop-taken-test.true);
       moves = λ tells.
-          moves_more (told (g.S.Source.left c.args.source.now)) (told (g.S.Source.left c.loop-taken.source)) (told (g.S.Source.left c.read_piece.new.source))
+          moves_more (told (g.S.Source.state c.args.source.now).left) (told (g.S.Source.state c.loop-taken.source).left) (told (g.S.Source.state c.read_piece.new.source).left)
           c.args.into.now.items c.loop-taken.into.items c.read_piece.new.into.items c.loop-taken.taken c.in_ok-n.n
           (was.moves tells) (c.in_ok-n.ensures.moves (was.kind ∙ tells));
       appends = added_more c.args.into.now.items c.loop-taken.into.items c.read_piece.new.into.items c.loop-taken.taken c.in_ok-n.n was.appends c.in_ok-n.ensures.appends;
       kind = c.in_ok-n.ensures.kind ∙ was.kind;
-      later = omega (arith, was.later, c.in_ok-n.ensures.later);
+      steady = c.in_ok-n.ensures.cause.steady ∙ was.steady;
     }

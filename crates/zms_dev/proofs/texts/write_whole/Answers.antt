@@ -10,7 +10,7 @@ loop-written-preserved g c =
     record {
       within = grind (arith, common_steps);
       taken = λ tells.
-          written_more c.args.bytes.now (told (g.S.Sink.taken c.args.sink.now)) (told (g.S.Sink.taken c.loop-written.sink)) (told (g.S.Sink.taken c.write.new.self)) c.loop-written.written c.in_ok-n.n (was.taken tells) (c.in_ok-n.ensures.bytes (was.kind ∙ tells));
+          written_more c.args.bytes.now (told (g.S.Sink.state c.args.sink.now).taken) (told (g.S.Sink.state c.loop-written.sink).taken) (told (g.S.Sink.state c.write.new.self).taken) c.loop-written.written c.in_ok-n.n (was.taken tells) (c.in_ok-n.ensures.bytes (was.kind ∙ tells));
       kind = c.in_ok-n.ensures.kind ∙ was.kind;
       steady = c.in_ok-n.ensures.some (grind (arith, common_steps)) ∙ was.steady;
     }

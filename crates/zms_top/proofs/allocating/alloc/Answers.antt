@@ -41,6 +41,7 @@ returns c =
       learns = λ class copies_asked.
           learns_granted (ground_of (origin_of c.args.pool.now.metaslab)) c.args.name.now c.args.size class copies_asked c.hold-hold.result.group c.in-Some.seg c.push.new.self c.args.blocks.now c.add_block.new.blocks
           copies looked.may.within c.in_ok-add_block.ensures;
+      first = did.leaves.first;
       stays = did.acted.stays;
       gate = ap (λ (g : GateState). g.opened) (stays_held c.args.pool.now.gate c.hold-hold.new.self c.release.new.self c.hold-hold.ensures.stays c.release.ensures.stays);
     }

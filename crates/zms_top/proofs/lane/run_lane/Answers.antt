@@ -1,4 +1,4 @@
-use Rattle.std.proofs.Common.{◌≡◌, ◌+◌, ◌<◌, ◌++◌, ◌∷◌, [], length, take, refl, sym, ◌∙◌, ap, subst, arith, length-append}
+use Rattle.std.proofs.Common.{◌≡◌, List, ◌+◌, ◌<◌, ◌++◌, ◌∷◌, [], length, take, refl, sym, ◌∙◌, ap, subst, arith, length-append}
 use Rattle.std.proofs.lemmas.List.{take_all, length-take-le}
 use Rattle.zms_top.proofs.PairLemmas.{length-paired}
 use Rattle.std.proofs.lemmas.List.Elements.{All-get_or}
@@ -6,7 +6,14 @@ use Rattle.ms_model.specs.Origin.{Origin}
 use Rattle.zms_top.specs.Acting.{IsKept}
 use Rattle.zms_top.specs.declared.replies.Reply.{Reply}
 use Rattle.ms_core.specs.State.{origin_of}
-use Rattle.zms_top.specs.Answers.{paired}
+use Rattle.zms_dev.specs.Bytes.{Outside}
+use Rattle.zms_dev.specs.Disk.{DiskState, Tells}
+use Rattle.zms_dev.specs.Runs.{Spares}
+use Rattle.zms_dev.proofs.Sparing.{spares_none, spares_then}
+use Rattle.zms_top.specs.Record.{record_len}
+use Rattle.zms_top.specs.Answers.{Replied, paired}
+use Rattle.zms_top.specs.Acting.{IsPool}
+use Rattle.zms_top.specs.declared.pool.Pool.{Pool}
 use Rattle.zms_top.specs.Backing.{AreIntervals}
 use Rattle.zms_top.specs.Naming.{Learns, AreNamed}
 use Rattle.zms_top.specs.Sound.{ground_of}
@@ -15,7 +22,7 @@ use Rattle.zms_top.proofs.NamingLemmas.{named_none, named_push}
 use Rattle.zms_top.specs.Script.{IsCommand}
 use Rattle.txg_gate.specs.Closings.{closings_of}
 use Rattle.zms_top.proofs.SyncSteps.{stays_both}
-use Rattle.zms_top.proofs.RunLemmas.{run_none, run_more, kept_none, kept_both, intervals_push, answers-push, paired-push, idle_before}
+use Rattle.zms_top.proofs.RunLemmas.{run_none, run_more, kept_none, kept_both, faults_after, same_units, intervals_push, answers-push, paired-push, idle_before}
 use Rattle.zms_top.proofs.lane.run_lane.Goals as goal
 
 pub loop-command-init : goal.loop-command-init
@@ -25,12 +32,19 @@ loop-command-init g c =
       each = ap length empty;
       named = named_none (ground_of (origin_of c.args.pool.now.metaslab)) c.new-blocks.result c.new-blocks.ensures.empty;
       ran = run_none c.args.pool.now c.requires.pool c.requires.fresh;
-      intervals = subst (λ l. AreIntervals (g.D.Disk.faults c.args.disk.now) (g.D.Disk.faults c.args.disk.now) (answers_of l)) (sym empty) (omega arith);
+      intervals = subst (λ l. AreIntervals (g.D.Disk.faults c.args.disk.now) (g.D.Disk.faults c.args.disk.now) (answers_of l)) (sym empty) refl;
       kept = λ tells idle. kept_none _ _ (g.D.Disk.state c.args.disk.now) tells;
       stays = refl;
       gate = refl;
-      later = omega arith;
+      faults = rw c.requires.fresh refl;
+      spares = λ tells. spares_none (Outside 0 (record_len c.args.pool.now.record.units)) (g.D.Disk.state c.args.disk.now) tells (g.met.D.Disk.only_now c.args.disk.now);
     }
+
+-- what one more command spared
+all_spared : (p q : Pool) (done : List Replied) → IsPool p → HasRun p q done → (start mid end : DiskState)
+    → Spares (Outside 0 (record_len p.record.units)) start mid → (Tells mid → Spares (Outside 0 (record_len q.record.units)) mid end) → Spares (Outside 0 (record_len p.record.units)) start end
+all_spared p q done was run start mid end first then =
+    spares_then (Outside 0 (record_len p.record.units)) start mid end first (subst (λ n. Spares (Outside 0 (record_len n)) mid end) (same_units p q done was run) (then first.tells))
 
 pub loop-command-preserved : goal.loop-command-preserved
 loop-command-preserved g c =
@@ -46,7 +60,7 @@ loop-command-preserved g c =
     let origin : origin_of c.loop-command.pool.metaslab ≡ origin_of c.args.pool.now.metaslab = ap origin_of was.ran.stays in
     let named : AreNamed (ground_of (origin_of c.loop-command.pool.metaslab)) done c.loop-command.blocks = subst (λ (o : Origin). AreNamed (ground_of o) done c.loop-command.blocks) (sym origin) was.named in
     let learns : Learns (ground_of (origin_of c.args.pool.now.metaslab)) item.what c.in_ok-answer.answer c.loop-command.blocks c.run_command.new.blocks = subst (λ (o : Origin). Learns (ground_of o) item.what c.in_ok-answer.answer c.loop-command.blocks c.run_command.new.blocks) origin did.learns in
-    let run = run_more c.args.pool.now c.loop-command.pool c.run_command.new.pool done item c.in_ok-answer.answer was.ran is_command.lane (did.acted done was.ran.fault named) did.first in
+    let run = run_more c.args.pool.now c.loop-command.pool c.run_command.new.pool done item c.in_ok-answer.answer was.ran is_command.lane (did.acted done was.ran.fault named) did.first did.synced in
     let pairs = ap (λ l. paired (take (i + 1) c.args.commands.now) l) items ∙ paired-push c.args.commands.now rs i item reply c.loop-command-test.true was.each c.command-item.is in
     record {
       each = ap length items ∙ (length-append rs (reply ∷ []) ∙ ap (λ n. n + 1) was.each);
@@ -63,7 +77,8 @@ loop-command-preserved g c =
           (subst (λ (o : Origin). IsKept o c.loop-command.pool.metaslab.notes c.run_command.new.pool.metaslab.notes (g.D.Disk.state c.loop-command.disk) (g.D.Disk.state c.run_command.new.disk)) origin then);
       stays = stays_both c.args.pool.now.metaslab c.loop-command.pool.metaslab c.run_command.new.pool.metaslab was.stays did.stays;
       gate = did.gate ∙ was.gate;
-      later = omega (arith, was.later, did.later);
+      faults = faults_after c.loop-command.pool.first c.run_command.new.pool.first c.in_ok-answer.answer (g.D.Disk.faults c.args.disk.now) (g.D.Disk.faults c.loop-command.disk) (g.D.Disk.faults c.run_command.new.disk) did.first was.faults did.intervals (λ some. ap g.D.Disk.faults (did.suspended some));
+      spares = λ tells. all_spared c.args.pool.now c.loop-command.pool done c.requires.pool was.ran (g.D.Disk.state c.args.disk.now) (g.D.Disk.state c.loop-command.disk) (g.D.Disk.state c.run_command.new.disk) (was.spares tells) did.spares;
     }
 
 pub returns : goal.returns
@@ -77,7 +92,8 @@ returns g c =
       kept = was.kept;
       stays = was.stays;
       gate = was.gate;
-      later = was.later;
+      faults = was.faults;
+      spares = was.spares;
     }
 
 pub run_command-requires-clause-few : goal.run_command-requires-clause-few
@@ -89,3 +105,18 @@ run_command-requires-clause-few g c =
     let front = length-take-le i c.args.commands.now (omega (arith, c.loop-command-test.true)) in
     let pairs = length-paired (take i c.args.commands.now) c.loop-command.replies.items (front ∙ sym was.each) in
     subst (λ l. closings_of l c.loop-command.pool.gate.notes < 200000) (sym is_command.lane) (omega (arith, was.ran.rises, pairs, front, c.requires.few, c.loop-command-test.true))
+
+pub returns-in_err-answer-clause-faults : goal.returns-in_err-answer-clause-faults
+returns-in_err-answer-clause-faults g c =
+    let err = c.in_err-answer.ensures.err in
+    rw err.1 (ap g.D.Disk.faults err.0 ∙ c.loop-command.invariant.faults)
+
+pub returns-in_err-answer-clause-spares : goal.returns-in_err-answer-clause-spares
+returns-in_err-answer-clause-spares g c = λ tells.
+    let same = ap g.D.Disk.state (sym c.in_err-answer.ensures.err.0) in
+    subst (λ d. Spares (Outside 0 (record_len c.args.pool.now.record.units)) (g.D.Disk.state c.args.disk.now) d) same (c.loop-command.invariant.spares tells)
+
+pub returns-in_err-push-clause-spares : goal.returns-in_err-push-clause-spares
+returns-in_err-push-clause-spares g c = λ tells.
+    let was = c.loop-command.invariant in
+    all_spared c.args.pool.now c.loop-command.pool _ c.requires.pool was.ran (g.D.Disk.state c.args.disk.now) (g.D.Disk.state c.loop-command.disk) (g.D.Disk.state c.run_command.new.disk) (was.spares tells) c.in_ok-answer.ensures.spares

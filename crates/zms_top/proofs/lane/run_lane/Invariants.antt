@@ -1,6 +1,11 @@
-use Rattle.std.proofs.Common.{◌≡◌, ◌≤◌, length, take, None}
+use Rattle.std.proofs.Common.{◌≡◌, length, take, None}
 use Rattle.ms_core.specs.State.{origin_of, StaysButNotes}
+use Rattle.std.specs.Prelude.{is_some, if◌then◌else◌}
+use Rattle.zms_dev.specs.Bytes.{Outside}
+use Rattle.zms_dev.specs.Causes.{one_more}
 use Rattle.zms_dev.specs.Disk.{Tells}
+use Rattle.zms_dev.specs.Runs.{Spares}
+use Rattle.zms_top.specs.Record.{record_len}
 use Rattle.zms_top.specs.Answers.{paired}
 use Rattle.zms_top.specs.Backing.{AreIntervals}
 use Rattle.zms_top.specs.Acting.{IsKept}
@@ -18,5 +23,6 @@ invariant-loop-command g l = record {
   kept : Tells (g.D.Disk.state l.fn.disk) → l.pool.first ≡ None → IsKept (origin_of l.fn.pool.metaslab) l.fn.pool.metaslab.notes l.pool.metaslab.notes (g.D.Disk.state l.fn.disk) (g.D.Disk.state l.disk);
   stays : StaysButNotes l.fn.pool.metaslab l.pool.metaslab;
   gate : l.pool.gate.opened ≡ l.fn.pool.gate.opened;
-  later : g.D.Disk.faults l.fn.disk ≤ g.D.Disk.faults l.disk;
+  faults : g.D.Disk.faults l.disk ≡ (if is_some l.pool.first then one_more (g.D.Disk.faults l.fn.disk) else g.D.Disk.faults l.fn.disk);
+  spares : Tells (g.D.Disk.state l.fn.disk) → Spares (Outside 0 (record_len l.fn.pool.record.units)) (g.D.Disk.state l.fn.disk) (g.D.Disk.state l.disk);
 }

@@ -1,6 +1,5 @@
 use Rattle.std.proofs.Common.{refl, ◌∙◌, ap}
 use Rattle.zms_top.specs.Answers.{paired}
-use Rattle.zms_top.specs.Reporting.{sink}
 use Rattle.zms_top.specs.Ends.{any_device, end_status}
 use Rattle.zms_top.specs.Shipping.{HandsOver, IsPrinted}
 use Rattle.zms_top.proofs.ShipLemmas.{stops_by}
@@ -10,7 +9,7 @@ pub returns : goal.returns
 returns g c =
     let replies = c.args.replies.items in
     let print : IsPrinted c.args.pool (paired c.args.commands.now replies)
-    (sink (g.K.Sink.taken c.args.out.now) (g.K.Sink.faults c.args.out.now)) (sink (g.K.Sink.taken c.print-printed.new.out) (g.K.Sink.faults c.print-printed.new.out)) c.print-printed.result = rw c.deref.ensures.value at c.print-printed.ensures in
+    (g.K.Sink.state c.args.out.now) (g.K.Sink.state c.print-printed.new.out) c.print-printed.result = rw c.deref.ensures.value at c.print-printed.ensures in
     let handed : HandsOver c.args.pool replies c.hand_over-journals.result.0 c.hand_over-journals.result.1 = rw c.from_vec.ensures at c.hand_over-journals.ensures in
     let written = c.trace_journals-written.result in
     record {
@@ -28,7 +27,7 @@ returns g c =
         printed = c.print-printed.result;
         prints = print.prints;
         traces = c.trace_journals-written.ensures.traces;
-        stops = stops_by (λ t. sink (g.T.Sink.taken t) (g.T.Sink.faults t)) c.args.trace.now c.trace_journals-written.new.trace c.print-printed.result written c.trace_journals-written.ensures.stops;
+        stops = stops_by g.T.Sink.state c.args.trace.now c.trace_journals-written.new.trace c.print-printed.result written c.trace_journals-written.ensures.stops;
       };
       status_is = c.status_of.ensures ∙ ap (λ r. end_status (any_device r) written) (c.as_slice.ensures ∙ handed.replies_are);
     }

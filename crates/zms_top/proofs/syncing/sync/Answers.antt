@@ -1,4 +1,7 @@
-use Rattle.std.proofs.Common.{◌≡◌, true, false, ◌∙◌}
+use Rattle.std.proofs.Common.{◌≡◌, true, false, subst, ◌∙◌}
+use Rattle.zms_dev.specs.Bytes.{Outside}
+use Rattle.zms_dev.specs.Runs.{Spares}
+use Rattle.zms_top.specs.Record.{record_len}
 use Rattle.zms_top.proofs.SyncSteps.{suspended_did, sync_did, kept_after}
 use Rattle.zms_top.proofs.syncing.sync.Goals as goal
 
@@ -14,11 +17,13 @@ returns g c =
       acted = did.acted;
       first = did.first;
       intervals = did.intervals;
+      synced = did.synced;
       recorded = λ tells none.
           kept_after c.args.pool.now c.close.new.pool c.commit.new.pool c.args.lane c.in_ok-group.group _ _ c.commit.result
           (g.D.Disk.state c.args.disk.now) (g.D.Disk.state c.commit.new.disk)
-          c.requires.pool c.in_default.is did.acted.pool closed committed none (c.commit.ensures.tells tells) (c.commit.ensures.leaves tells);
-      later = did.later;
+          c.requires.pool c.in_default.is did.acted.pool closed committed none (c.commit.ensures.spares tells).tells (c.commit.ensures.leaves tells);
+      spares = λ tells. subst (λ n. Spares (Outside 0 (record_len n)) (g.D.Disk.state c.args.disk.now) (g.D.Disk.state c.commit.new.disk)) closed.units (c.commit.ensures.spares tells);
+      err = tt;
       suspended = λ some. absurd (no_fault (rw c.in_default.is at some));
       stays = did.acted.stays;
       gate = c.commit.ensures.gate ∙ c.in_ok-group.ensures.gate;

@@ -7,16 +7,16 @@ use Rattle.zms_top.proofs.top.zms.Goals as goal
 pub returns-in-Some-Run-clause-cause : goal.returns-in-Some-Run-clause-cause
 returns-in-Some-Run-clause-cause g c =
     let asks : Asks (map string_bytes c.args.words.now) Run = rw c.in-Some-Run.field-0-is at c.in-Some-Run.ensures.asks in
-    run_cause (map string_bytes c.args.words.now) _ _ _ _ _ _ _ _ _ _ _ _ _ _ _ c.run-ended.result.status _ _ asks c.run-ended.ensures
+    run_cause (map string_bytes c.args.words.now) _ _ c.run-ended.result.status _ _ asks c.run-ended.ensures.ends
 
 pub returns-in_default-clause-cause : goal.returns-in_default-clause-cause
 returns-in_default-clause-cause g c =
     let other : c.read_words.result ≡ Some Run → ⊥ = search rules in
-    still_cause (map string_bytes c.args.words.now) _ _ _ _ _ _ _ _ _ _ (g.K.Sink.taken c.args.out.now) (g.K.Sink.taken c.zms_still-status.new.out) (g.D.Disk.state c.zms_still-status.result.1)
+    still_cause (map string_bytes c.args.words.now) _ _
     c.zms_still-status.result.0 c.read_words.result c.read_words.ensures.asks c.read_words.ensures.nothing other (λ none. (c.zms_still-status.ensures.usage none).0) c.zms_still-status.ensures.create
 
 pub returns-in-Some-Run-clause-complete_run : goal.returns-in-Some-Run-clause-complete_run
-returns-in-Some-Run-clause-complete_run g c = λ honest. run_is_done _ _ _ _ _ _ _ _ _ _ _ _ (returns-in-Some-Run-clause-cause g c) honest
+returns-in-Some-Run-clause-complete_run g c = λ honest. run_is_done _ _ _ _ (returns-in-Some-Run-clause-cause g c) honest
 
 pub returns-in_default-clause-complete_create : goal.returns-in_default-clause-complete_create
-returns-in_default-clause-complete_create g c = λ honest. create_is_done _ _ _ _ _ _ _ _ _ _ _ _ (returns-in_default-clause-cause g c) honest
+returns-in_default-clause-complete_create g c = λ honest. create_is_done _ _ _ _ (returns-in_default-clause-cause g c) honest

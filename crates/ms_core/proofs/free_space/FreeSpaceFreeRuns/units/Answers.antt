@@ -1,5 +1,5 @@
 use Rattle.std.proofs.Common.{◌∙◌}
-use Rattle.seg_trees.specs.Sets.{range as all_units}
+use Rattle.ms_core.proofs.Words.{all_units}
 use Rattle.ms_core.proofs.Narrowing.{size_down, range_le}
 use Rattle.ms_core.proofs.free_space.FreeSpaceFreeRuns.units.Goals as goal
 

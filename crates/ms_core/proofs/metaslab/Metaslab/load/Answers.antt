@@ -1,36 +1,33 @@
 use Rattle.std.proofs.Common.{◌≡◌, ◌<◌, ℕ, sym, subst, List, [], ◌∷◌, ◌++◌, ◌∙◌, ap, arith}
-use Rattle.std.proofs.lemmas.List.{get_or-replicate}
-use Rattle.zms_units.specs.Segments.{covered, AreSegs}
-use Rattle.ms_model.specs.Units.{held}
-use Rattle.ms_model.specs.declared.notes.Act.TheVariants.{Load}
-use Rattle.ms_model.specs.declared.notes.Noted.{Noted}
-use Rattle.ms_core.specs.State.{MsState, origin_of, settled_of}
-use Rattle.ms_core.specs.Kept.{book_in}
-use Rattle.ms_core.proofs.Keeping.{kept_notes, kept_stay, kept_load}
-use Rattle.ms_core.proofs.Narrowing.{all_nodes_most}
-use Rattle.ms_core.proofs.Gapping.{segs_few}
-use Rattle.ms_core.proofs.Sparing.{waiting_most, waiting_same, waiting_cleared}
+use Rattle.ms_core.proofs.Words.{get_or-replicate, covered, AreSegs, held, Load, Noted, MsState, origin_of, settled_of, book_in}
+use Rattle.ms_core.proofs.Keeping.{kept_notes, kept_stay, kept, loads}
+use Rattle.ms_core.proofs.Narrowing.{segs_few}
+use Rattle.ms_core.proofs.Sparing.{nodes_stay, waiting_same, waiting_cleared}
 use Rattle.ms_core.proofs.metaslab.Metaslab.load.Goals as goal
 
-pub overflow_cast-held : goal.overflow_cast-held
-overflow_cast-held g c =
+pub overflow_cast-nodes : goal.overflow_cast-nodes
+overflow_cast-nodes g c =
     let segs = subst (λ (s : MsState). AreSegs s.units c.args.held.now) (sym c.self.view_is) c.requires.segs in
     omega (arith, c.self.invariant.kept.most, segs_few 0 c.self.inside.units c.args.held.now segs)
 
-pub reserve-requires-2 : goal.reserve-requires-2
-reserve-requires-2 g c =
+pub overflow_add-nodes : goal.overflow_add-nodes
+overflow_add-nodes g c =
     let segs = subst (λ (s : MsState). AreSegs s.units c.args.held.now) (sym c.self.view_is) c.requires.segs in
-    let set = g.R.SegTrees.set c.self.inside.trees in
-    record { most = omega (arith, c.self.invariant.kept.most, segs_few 0 c.self.inside.units c.args.held.now segs, all_nodes_most set, waiting_most set, c.waiting_nodes-waiting.ensures) }
+    omega (arith, c.self.invariant.kept.most, segs_few 0 c.self.inside.units c.args.held.now segs)
 
-pub invariant_of-self-in_err-reserve-2 : goal.invariant_of-self-in_err-reserve-2
-invariant_of-self-in_err-reserve-2 g c =
+pub reserve-requires : goal.reserve-requires
+reserve-requires g c =
+    let segs = subst (λ (s : MsState). AreSegs s.units c.args.held.now) (sym c.self.view_is) c.requires.segs in
+    omega (arith, c.self.invariant.kept.most, segs_few 0 c.self.inside.units c.args.held.now segs)
+
+pub invariant_of-self : goal.invariant_of-self
+invariant_of-self g c =
     let m = c.self.inside in
+    let set = g.R.SegTrees.set m.trees in
+    let new = g.R.SegTrees.set c.reserve.new.trees in
     record {
-      kept =
-          kept_stay (g.R.SegTrees.set m.trees) (g.R.SegTrees.set c.reserve-2.new.self) _
-          (kept_notes (g.R.SegTrees.set m.trees) (book_in m) c.reserve.new.self.items c.reserve.ensures.items c.self.invariant.kept) c.reserve-2.ensures.stay;
-      waiting = omega (arith, c.self.invariant.waiting, c.reserve-2.ensures.spare, waiting_same (g.R.SegTrees.set m.trees) (g.R.SegTrees.set c.reserve-2.new.self) (λ tree u from to. c.reserve-2.ensures.stay tree u));
+      kept = kept_stay set new _ (kept_notes set (book_in m) c.reserve.new.notes.items c.reserve.ensures.items c.self.invariant.kept) c.reserve.ensures.stay;
+      waiting = omega (arith, c.self.invariant.waiting, c.reserve.ensures.spare, waiting_same set new (λ tree u from to. c.reserve.ensures.stay tree u));
       room = omega (arith, c.self.invariant.room, c.reserve.ensures.len, c.reserve.ensures.capacity);
     }
 
@@ -38,23 +35,25 @@ pub invariant_of-self-2 : goal.invariant_of-self-2
 invariant_of-self-2 g c =
     let m = c.self.inside in
     let set = g.R.SegTrees.set m.trees in
-    let middle = g.R.SegTrees.set c.reserve-2.new.self in
+    let middle = g.R.SegTrees.set c.reserve.new.trees in
+    let new = g.R.SegTrees.set c.add_gaps.new.trees in
+    let gaps = c.add_gaps.ensures in
     let held_there = subst (λ (s : MsState). (u : ℕ) → u < s.units → covered c.args.held.now u ≡ held (origin_of s) s.notes (settled_of s) u) (sym c.self.view_is) c.requires.held in
+    let was = kept_stay set middle (book_in m) c.self.invariant.kept c.reserve.ensures.stay in
     record {
       kept =
-          kept_load middle (g.R.SegTrees.set c.add_gaps.new.trees) (book_in m) (kept_stay set middle (book_in m) c.self.invariant.kept c.reserve-2.ensures.stay) c.push_note.new.notes.items c.args.lane _ c.args.held.now
+          kept middle new (book_in m) was c.push_note.new.notes.items c.args.lane Load _ _ _
           (c.push_note.ensures.items ∙ ap (λ (l : List Noted). l ++ record { lane = c.args.lane; act = Load } ∷ []) c.reserve.ensures.items)
-          c.if-self.false c.add_gaps.ensures.gaps c.add_gaps.ensures.above c.add_gaps.ensures.others held_there (λ number l. get_or-replicate 18 number 0 0 l);
-      waiting = omega (arith, c.in_ok-reserve-2.ensures.enough, c.waiting_nodes-waiting.ensures, c.add_gaps.ensures.spare, waiting_same set middle (λ tree u from to. c.reserve-2.ensures.stay tree u), waiting_cleared middle (g.R.SegTrees.set c.add_gaps.new.trees) 0 (omega arith) c.add_gaps.ensures.others);
-      room = omega (arith, c.self.invariant.room, c.self.invariant.kept.order, c.in_ok-reserve.ensures.ok, c.push_note.ensures.len, c.push_note.ensures.capacity);
+          (loads middle new (book_in m) was c.args.lane c.requires.lane _ c.args.held.now c.if-self.false gaps.gaps gaps.above gaps.others held_there (λ number l. get_or-replicate 18 number 0 0 l));
+      waiting = omega (arith, c.in_ok-reserve.ensures.enough.1, gaps.spare, waiting_cleared middle new 0 (omega arith) gaps.others);
+      room = omega (arith, c.self.invariant.room, c.self.invariant.kept.order, c.in_ok-reserve.ensures.enough.0, c.push_note.ensures.len, c.push_note.ensures.capacity);
     }
 
-pub overflow_add-waiting : goal.overflow_add-waiting
-overflow_add-waiting g c =
-    let segs = subst (λ (s : MsState). AreSegs s.units c.args.held.now) (sym c.self.view_is) c.requires.segs in
-    omega (arith, c.self.invariant.kept.most, segs_few 0 c.self.inside.units c.args.held.now segs, waiting_most (g.R.SegTrees.set c.self.inside.trees), c.waiting_nodes-waiting.ensures)
-
-pub overflow_add-waiting-2 : goal.overflow_add-waiting-2
-overflow_add-waiting-2 g c =
-    let segs = subst (λ (s : MsState). AreSegs s.units c.args.held.now) (sym c.self.view_is) c.requires.segs in
-    omega (arith, c.self.invariant.kept.most, segs_few 0 c.self.inside.units c.args.held.now segs, waiting_most (g.R.SegTrees.set c.self.inside.trees), c.waiting_nodes-waiting.ensures)
+pub returns-clause-memory : goal.returns-clause-memory
+returns-clause-memory g c =
+    let same = nodes_stay (g.R.SegTrees.set c.self.inside.trees) (g.R.SegTrees.set c.reserve.new.trees) c.reserve.ensures.stay in
+    record {
+      notes = omega (arith, ap (λ (s : MsState). s.memory.notes) c.self.view_is, c.reserve.ensures.capacity, c.push_note.ensures.capacity);
+      nodes = omega (arith, ap (λ (s : MsState). s.memory.nodes) c.self.view_is, same, c.reserve.ensures.spare, c.add_gaps.ensures.memory);
+      base = ap (λ (s : MsState). s.memory.base) c.self.view_is;
+    }

@@ -1,7 +1,7 @@
 use Rattle.std.proofs.Common.{◌≡◌, ℕ, cond, arith, sym, ◌∙◌}
 use Rattle.zms_units.proofs.Counting.{units_le}
 use Rattle.ms_model.specs.Checking.{vacant_in}
-use Rattle.ms_model.proofs.RunLooks.{units_more}
+use Rattle.zms_units.proofs.Counting.{units_more}
 use Rattle.ms_model.proofs.checking.Checker.vacant_count.Goals as goal
 use Rattle.ms_model.proofs.checking.Checker.vacant_count.Goals.{then-is_vacant, else-is_vacant}
 

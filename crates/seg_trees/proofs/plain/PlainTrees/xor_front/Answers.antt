@@ -2,9 +2,10 @@ use Rattle.std.proofs.Common.{◌≡◌, ◌∙◌, ℕ, true, false, sym, ap, a
 use Rattle.std.specs.Prelude.{◌||◌, ◌&&◌, not}
 use Rattle.zms_units.specs.declared.segments.Seg.{Seg}
 use Rattle.zms_units.specs.Segments.{covers}
-use Rattle.zms_units.proofs.UnitTests.{covers_true}
+use Rattle.zms_units.proofs.Covers.{covers_true}
 use Rattle.seg_trees.specs.Kept.{TreeLists, sets_of}
-use Rattle.seg_trees.proofs.Elements.{new_is, old_is, stays_at, others_stay, none_added, all_added}
+use Rattle.seg_trees.proofs.Elements.{room_set, memory_kept, new_is, old_is, stays_at, others_stay, none_added, all_added}
+use Rattle.std.proofs.lemmas.List.{length-set}
 use Rattle.seg_trees.proofs.plain.PlainTrees.xor_front.Goals as goal
 
 pub returns-then-held-clause-from : goal.returns-then-held-clause-from
@@ -41,3 +42,25 @@ returns-else-held-clause-into c =
 pub returns-else-held-clause-others : goal.returns-else-held-clause-others
 returns-else-held-clause-others c =
     λ k u f g. others_stay c.self.inside.trees c.args.into _ (omega arith) (ap (λ (s : TreeLists). s.lists) c.self.view_is) _ k u g
+
+pub invariant_of-self : goal.invariant_of-self
+invariant_of-self c =
+    room_set c.self.inside.trees c.args.from c.self.inside.limit c.index-self-from-then-held.result c.self.inside.buffer c.remove.new.self (omega arith) c.self.invariant
+    (omega (arith, ap (λ (s : TreeLists). s.spare) c.self.view_is, c.self.invariant.fits, c.remove.ensures.nodes)) c.remove.ensures.capacity c.remove.ensures.whole
+
+pub returns-then-held-clause-memory : goal.returns-then-held-clause-memory
+returns-then-held-clause-memory c =
+    memory_kept c.self.inside.trees _ _ _ c.self.inside.limit _ (omega arith) (omega (arith, length-set c.self.inside.trees c.args.from c.remove.new.self)) c.self.invariant
+    (room_set c.self.inside.trees c.args.from c.self.inside.limit c.index-self-from-then-held.result c.self.inside.buffer c.remove.new.self (omega arith) c.self.invariant
+    (omega (arith, ap (λ (s : TreeLists). s.spare) c.self.view_is, c.self.invariant.fits, c.remove.ensures.nodes)) c.remove.ensures.capacity c.remove.ensures.whole) c.self.view_is
+
+pub invariant_of-self-else-held : goal.invariant_of-self-else-held
+invariant_of-self-else-held c =
+    room_set c.self.inside.trees c.args.into c.self.inside.limit c.index-self-into.result c.self.inside.buffer c.add.new.self (omega arith) c.self.invariant
+    (omega (arith, ap (λ (s : TreeLists). s.spare) c.self.view_is, c.self.invariant.fits, c.add.ensures.nodes)) c.add.ensures.capacity c.add.ensures.whole
+
+pub returns-else-held-clause-memory : goal.returns-else-held-clause-memory
+returns-else-held-clause-memory c =
+    memory_kept c.self.inside.trees _ _ _ c.self.inside.limit _ (omega arith) (omega (arith, length-set c.self.inside.trees c.args.into c.add.new.self)) c.self.invariant
+    (room_set c.self.inside.trees c.args.into c.self.inside.limit c.index-self-into.result c.self.inside.buffer c.add.new.self (omega arith) c.self.invariant
+    (omega (arith, ap (λ (s : TreeLists). s.spare) c.self.view_is, c.self.invariant.fits, c.add.ensures.nodes)) c.add.ensures.capacity c.add.ensures.whole) c.self.view_is

@@ -1,6 +1,6 @@
 use Rattle.std.proofs.Common.{◌≡◌, ℕ, ◌<◌, length, get_or, rules, arith}
 use Rattle.seg_trees.specs.OneSet.{OneSet}
-use Rattle.seg_trees.proofs.Elements.{runs_none}
+use Rattle.seg_trees.proofs.Elements.{runs_none, empty_whole}
 use Rattle.seg_trees.proofs.plain.PlainTreesSegTrees.new.Goals as goal
 
 pub invariant_of-result : goal.invariant_of-result
@@ -12,4 +12,5 @@ invariant_of-result c =
       fits = omega (arith, runs_none c.from_fn.result none);
       room = λ k d l. omega arith;
       buffer_room = omega arith;
+      whole = λ i d l. empty_whole _ (none i d l);
     }

@@ -2,7 +2,8 @@ use Rattle.std.proofs.Common.{◌∙◌, ap, arith}
 use Rattle.std.specs.Prelude.{◌&&◌, not}
 use Rattle.zms_units.specs.Segments.{covers}
 use Rattle.seg_trees.specs.Kept.{TreeLists}
-use Rattle.seg_trees.proofs.Elements.{old_is, new_is, others_stay}
+use Rattle.seg_trees.proofs.Elements.{old_is, new_is, others_stay, room_set, memory_kept}
+use Rattle.std.proofs.lemmas.List.{length-set}
 use Rattle.seg_trees.proofs.plain.PlainTreesSegTrees.remove.Goals as goal
 
 pub returns-clause-removed : goal.returns-clause-removed
@@ -14,3 +15,14 @@ returns-clause-removed g c =
 pub returns-clause-others : goal.returns-clause-others
 returns-clause-others g c =
     others_stay c.self.inside.trees c.args.tree _ (omega arith) (ap (λ (s : TreeLists). s.lists) c.self.view_is) _
+
+pub returns-clause-memory : goal.returns-clause-memory
+returns-clause-memory g c =
+    memory_kept c.self.inside.trees _ _ _ c.self.inside.limit _ (omega arith) (omega (arith, length-set c.self.inside.trees c.args.tree c.remove.new.self)) c.self.invariant
+    (room_set c.self.inside.trees c.args.tree c.self.inside.limit c.index-self-tree.result c.self.inside.buffer c.remove.new.self (omega arith) c.self.invariant
+    (omega (arith, ap (λ (s : TreeLists). s.spare) c.self.view_is, c.self.invariant.fits, c.remove.ensures.nodes)) c.remove.ensures.capacity c.remove.ensures.whole) c.self.view_is
+
+pub invariant_of-self : goal.invariant_of-self
+invariant_of-self g c =
+    room_set c.self.inside.trees c.args.tree c.self.inside.limit c.index-self-tree.result c.self.inside.buffer c.remove.new.self (omega arith) c.self.invariant
+    (omega (arith, ap (λ (s : TreeLists). s.spare) c.self.view_is, c.self.invariant.fits, c.remove.ensures.nodes)) c.remove.ensures.capacity c.remove.ensures.whole

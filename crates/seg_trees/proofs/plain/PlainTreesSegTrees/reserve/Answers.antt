@@ -1,7 +1,7 @@
 use Rattle.std.proofs.Common.{◌≤◌, ◌+◌, ◌^◌, sym, ap, arith, subst}
 use Rattle.seg_trees.specs.Sets.{all_nodes}
 use Rattle.seg_trees.specs.Kept.{TreeLists, sets_of, lists_of}
-use Rattle.seg_trees.proofs.Elements.{all_nodes-is, runs_in_same}
+use Rattle.seg_trees.proofs.Elements.{all_nodes-is, runs_in_same, whole_same}
 use Rattle.seg_trees.proofs.plain.PlainTreesSegTrees.reserve.Goals as goal
 
 pub invariant_of-self : goal.invariant_of-self
@@ -11,6 +11,7 @@ invariant_of-self c =
       fits = omega (arith, c.self.invariant.fits, runs_in_same c.reserve_each.new.trees c.self.inside.trees c.reserve_each.ensures.lists);
       room = c.reserve_each.ensures.capacity c.self.inside.limit c.self.invariant.room;
       buffer_room = c.self.invariant.buffer_room;
+      whole = whole_same c.reserve_each.new.trees c.self.inside.trees c.reserve_each.ensures.lists c.self.invariant.whole;
     }
 
 pub returns-in_err-reserve_each-clause-spare : goal.returns-in_err-reserve_each-clause-spare
@@ -24,6 +25,7 @@ invariant_of-self-in_err-reserve c =
       fits = omega (arith, c.self.invariant.fits, runs_in_same c.reserve_each.new.trees c.self.inside.trees c.reserve_each.ensures.lists);
       room = c.reserve_each.ensures.capacity c.self.inside.limit c.self.invariant.room;
       buffer_room = omega (arith, c.self.invariant.buffer_room, c.reserve.ensures.capacity);
+      whole = whole_same c.reserve_each.new.trees c.self.inside.trees c.reserve_each.ensures.lists c.self.invariant.whole;
     }
 
 pub returns-in_err-reserve-clause-spare : goal.returns-in_err-reserve-clause-spare
@@ -38,6 +40,7 @@ invariant_of-self-2 c =
       fits = omega (arith, c.self.invariant.fits, runs_in_same c.reserve_each.new.trees c.self.inside.trees c.reserve_each.ensures.lists, c.max-limit.ensures);
       room = c.in_ok-reserve_each.ensures.ok;
       buffer_room = c.in_ok-reserve.ensures.ok;
+      whole = whole_same c.reserve_each.new.trees c.self.inside.trees c.reserve_each.ensures.lists c.self.invariant.whole;
     }
 
 pub returns-clause-enough : goal.returns-clause-enough

@@ -1,18 +1,12 @@
-use Rattle.std.proofs.Common.{◌≤◌, length, ap, ◌∙◌, arith}
-use Rattle.std.proofs.lemmas.List.Sorted.{All-permutation, sum_by-IsPermutation}
+use Rattle.std.proofs.Common.{length, ap, ◌∙◌, arith}
+use Rattle.std.proofs.lemmas.List.Sorted.{sum_by-IsPermutation}
 use Rattle.seg_trees.specs.OneSet.{OneSet}
 use Rattle.seg_trees.specs.Kept.{TreeLists, sets_of}
-use Rattle.seg_trees.proofs.Elements.{moved}
+use Rattle.seg_trees.proofs.Elements.{moved, room_swapped, memory_kept}
 use Rattle.seg_trees.proofs.plain.PlainTreesSegTrees.swap.Goals as goal
 
 pub invariant_of-self : goal.invariant_of-self
-invariant_of-self c =
-    record {
-      most = c.self.invariant.most;
-      fits = omega (arith, c.self.invariant.fits, sum_by-IsPermutation (λ (t : OneSet). length t.runs) c.self.inside.trees c.swap.new.self c.swap.ensures.permutation);
-      room = All-permutation (λ (t : OneSet). c.self.inside.limit ≤ t.capacity) c.self.inside.trees c.swap.new.self c.swap.ensures.permutation c.self.invariant.room;
-      buffer_room = c.self.invariant.buffer_room;
-    }
+invariant_of-self c = room_swapped c.self.inside.trees c.swap.new.self c.self.inside.limit c.self.inside.buffer c.swap.ensures.permutation c.self.invariant
 
 pub returns-clause-first : goal.returns-clause-first
 returns-clause-first c =
@@ -33,3 +27,8 @@ returns-clause-spare c =
       ap (λ (s : TreeLists). s.spare) c.self.view_is,
       sum_by-IsPermutation (λ (t : OneSet). length t.runs) c.self.inside.trees c.swap.new.self c.swap.ensures.permutation,
     )
+
+pub returns-clause-memory : goal.returns-clause-memory
+returns-clause-memory c =
+    memory_kept c.self.inside.trees c.swap.new.self _ _ c.self.inside.limit _ (omega arith) (omega arith) c.self.invariant
+    (room_swapped c.self.inside.trees c.swap.new.self c.self.inside.limit c.self.inside.buffer c.swap.ensures.permutation c.self.invariant) c.self.view_is

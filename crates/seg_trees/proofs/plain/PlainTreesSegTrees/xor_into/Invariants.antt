@@ -1,7 +1,7 @@
 use Rattle.std.proofs.Common.{◌≡◌, ◌+◌, ◌-◌, ◌≤◌, ℕ}
 use Rattle.std.specs.Prelude.{◌||◌, ◌&&◌, not}
 use Rattle.zms_units.specs.Segments.{covers}
-use Rattle.seg_trees.specs.Sets.{OthersStayBut}
+use Rattle.seg_trees.specs.Sets.{OthersStayBut, TakesNone}
 use Rattle.seg_trees.specs.Kept.{sets_of}
 use Rattle.seg_trees.proofs.plain.PlainTreesSegTrees.xor_into.Given as goal
 
@@ -13,6 +13,7 @@ invariant-loop-at l = record {
   into_set : (u : ℕ) → sets_of l.self.lists l.into u ≡ ((covers (record { start = l.fn.seg.start; count = l.at - l.fn.seg.start }) u && not (sets_of l.fn.self.lists l.from u)) || sets_of l.fn.self.lists l.into u);
   others : OthersStayBut (sets_of l.fn.self.lists) (sets_of l.self.lists) l.from l.into;
   spare : l.fn.self.spare + l.fn.seg.start ≤ l.self.spare + l.at;
+  memory : TakesNone l.fn.self.spare (sets_of l.fn.self.lists) l.self.spare (sets_of l.self.lists);
 }
 
 abbrev pub decreases-loop-at : goal.decreases-loop-at

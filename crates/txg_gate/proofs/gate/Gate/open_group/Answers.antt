@@ -1,4 +1,4 @@
-use Rattle.std.proofs.Common.{◌≤◌, ◌<◌, ◌+◌, arith, subst, ◌≡◌, sym}
+use Rattle.std.proofs.Common.{arith}
 use Rattle.txg_gate.specs.GateInside.{gate_state}
 use Rattle.txg_gate.proofs.Holds.{unheld}
 use Rattle.txg_gate.proofs.gate.Gate.open_group.Goals as goal

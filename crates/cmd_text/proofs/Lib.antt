@@ -1,0 +1,11 @@
+pub mod Bytes
+pub mod FieldLemmas
+pub mod Once
+pub mod Names
+pub mod Lists
+pub mod Limits
+pub mod Taking
+pub mod TextLines
+pub mod FileLemmas
+pub mod Either
+pub mod Written

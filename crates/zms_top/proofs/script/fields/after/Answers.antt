@@ -1,8 +1,0 @@
-use Rattle.zms_top.proofs.ReadingLemmas.{after_some, after_none}
-use Rattle.zms_top.proofs.script.fields.after.Goals as goal
-
-pub returns-clause-some : goal.returns-clause-some
-returns-clause-some c = after_some c.args.text.now c.args.head.now c.strip_prefix.result c.strip_prefix.ensures.cases
-
-pub returns-clause-none : goal.returns-clause-none
-returns-clause-none c = after_none c.args.text.now c.args.head.now c.strip_prefix.result c.strip_prefix.ensures.cases
