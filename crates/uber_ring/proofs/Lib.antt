@@ -1,0 +1,13 @@
+pub mod Pieces
+pub mod SlotBytes
+pub mod Stages
+pub mod NewestSoFar
+pub mod Wrong
+pub mod TableRows
+pub mod DecodeLoops
+pub mod RightTables
+pub mod ReadTables
+pub mod Encoded
+pub mod RoundTrip
+pub mod HeadBytes
+pub mod Depends
