@@ -1,0 +1,61 @@
+//! The forms in memory that a call runs over.
+
+ghost use Rattle.std.specs.Prelude.{◌≡◌, length, IfOk};
+
+use std::alloc::{AllocError, Global};
+use zms_dev::{DiskRoom, MemData, MemDisk, MemSink, MemSource, Room};
+
+/// The number of a call that is never made.
+const NEVER: usize = usize::MAX;
+
+/// Which call of each object fails, the first being call 0.
+#[derive(Clone, Copy, Debug)]
+pub struct Failing {
+    pub source: usize,
+    pub sink: usize,
+    pub trace: usize,
+    pub disk: usize,
+}
+
+impl Failing {
+    pub const NOTHING: Failing = Failing {
+        source: NEVER,
+        sink: NEVER,
+        trace: NEVER,
+        disk: NEVER,
+    };
+}
+
+/// A pool device with these bytes.
+pub fn disk(alloc: Global, bytes: &[u8], failing: usize) -> Result<MemDisk, AllocError> {
+    let room = DiskRoom {
+        end: 32_768,
+        written: 1_048_576,
+        calls: 64,
+    };
+    MemDisk::new(alloc, bytes, room, &[failing])
+}
+
+pub fn source(alloc: Global, bytes: &[u8], failing: usize) -> Result<MemSource, AllocError> {
+    MemSource::new(alloc, bytes, 4096, &[failing])
+}
+
+pub fn sink(alloc: Global, failing: usize) -> Result<MemSink, AllocError> {
+    let room = Room {
+        bytes: 65_536,
+        calls: 65_536,
+    };
+    MemSink::new(alloc, room, &[failing])
+}
+
+/// The data devices, which have no room.
+pub fn data_devices(alloc: Global) -> Result<Vec<MemData>, AllocError>
+    ensures { IfOk result (λ devices. length devices.items ≡ 16) }
+{
+    let room = Room { bytes: 0, calls: 0 };
+    let mut devices = Vec::with_capacity(alloc, 16)?;
+    for _ in 0..16usize {
+        devices.push(MemData::new(alloc, room, &[])?)?;
+    }
+    Ok(devices)
+}
