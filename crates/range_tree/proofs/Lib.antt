@@ -1,0 +1,13 @@
+pub mod Descents
+pub mod Orders
+pub mod Runs
+pub mod Putting
+pub mod Taking
+pub mod Finding
+pub mod Choosing
+pub mod Joining
+pub mod Merging
+pub mod Steering
+pub mod Among
+pub mod Empty
+pub mod Moved

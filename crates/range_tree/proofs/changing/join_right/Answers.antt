@@ -1,0 +1,45 @@
+use Rattle.std.proofs.Common.{◌+◌, length, arith, ap, subst}
+use Rattle.zms_units.specs.declared.segments.Seg.{Seg}
+use Rattle.zms_units.specs.Segments.{end_of}
+use Rattle.range_tree.specs.Kept.{seg_of, placed}
+use Rattle.range_tree.specs.Found.{FindsEnding, IsFirstEnding}
+use Rattle.range_tree.proofs.Descents.{descent_low}
+use Rattle.range_tree.proofs.Putting.{few_nodes}
+use Rattle.range_tree.proofs.Taking.{listed_run}
+use Rattle.range_tree.proofs.Joining.{touches_none, right_free, right_free_none, listed_used}
+use Rattle.range_tree.proofs.changing.join_right.Goals as goal
+
+pub node-requires : goal.node-requires
+node-requires c =
+    let f : IsFirstEnding c.args.pool.now c.args.tree.now (end_of c.args.seg + 1) c.in-Some.no.0 = subst (FindsEnding c.args.pool.now c.args.tree.now (end_of c.args.seg + 1)) c.in-Some.is c.first_ending-found.ensures.found in
+    listed_used c.requires.tree c.in-Some.no.0 f.listed
+
+pub take_out-more-requires-clause-listed : goal.take_out-more-requires-clause-listed
+take_out-more-requires-clause-listed c =
+    let f : IsFirstEnding c.args.pool.now c.args.tree.now (end_of c.args.seg + 1) c.in-Some.no.0 = subst (FindsEnding c.args.pool.now c.args.tree.now (end_of c.args.seg + 1)) c.in-Some.is c.first_ending-found.ensures.found in
+    f.listed
+
+pub overflow_add-result : goal.overflow_add-result
+overflow_add-result c =
+    let f : IsFirstEnding c.args.pool.now c.args.tree.now (end_of c.args.seg + 1) c.in-Some.no.0 = subst (FindsEnding c.args.pool.now c.args.tree.now (end_of c.args.seg + 1)) c.in-Some.is c.first_ending-found.ensures.found in
+    let is = ap seg_of c.node.ensures.node in
+    omega (arith, (listed_run c.requires.tree c.in-Some.no.0 f.listed).1, ap (λ (r : Seg). r.start) is, ap (λ (r : Seg). r.count) is)
+
+pub overflow_add-result-then-run-end : goal.overflow_add-result-then-run-end
+overflow_add-result-then-run-end c = omega (arith, c.first_ending-found.ensures.visits, c.take_out-more.ensures.visits, descent_low (length (placed c.args.pool.now c.args.tree.now)), few_nodes c.requires.tree)
+
+pub returns-else-run-end-clause-free : goal.returns-else-run-end-clause-free
+returns-else-run-end-clause-free c =
+    let f : IsFirstEnding c.args.pool.now c.args.tree.now (end_of c.args.seg + 1) c.in-Some.no.0 = subst (FindsEnding c.args.pool.now c.args.tree.now (end_of c.args.seg + 1)) c.in-Some.is c.first_ending-found.ensures.found in
+    let is = ap seg_of c.node.ensures.node in
+    right_free c.requires.tree c.args.seg c.requires.segment c.requires.apart c.in-Some.no.0 f (λ e. c.if-run-end.false (omega (arith, e, ap (λ (r : Seg). r.start) is, ap (λ (r : Seg). r.count) is)))
+
+pub returns-else-run-end-clause-touches : goal.returns-else-run-end-clause-touches
+returns-else-run-end-clause-touches c = touches_none c.args.pool.now _
+
+pub returns-in_default-clause-free : goal.returns-in_default-clause-free
+returns-in_default-clause-free c =
+    right_free_none c.requires.tree c.args.seg c.requires.segment c.requires.apart (subst (FindsEnding c.args.pool.now c.args.tree.now (end_of c.args.seg + 1)) c.in_default.is c.first_ending-found.ensures.found)
+
+pub returns-in_default-clause-touches : goal.returns-in_default-clause-touches
+returns-in_default-clause-touches c = touches_none c.args.pool.now _
