@@ -9,3 +9,4 @@ pub mod TextLines
 pub mod FileLemmas
 pub mod Either
 pub mod Written
+pub mod CommandLines

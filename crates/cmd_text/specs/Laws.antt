@@ -1,7 +1,8 @@
 -- What the definitions of files give: each law is the contract of a function of `laws`.
-use Rattle.std.specs.Prelude.{◌≡◌, ℕ, ◌++◌, List, map}
+use Rattle.std.specs.Prelude.{◌≡◌, ℕ, ◌≤◌, ◌++◌, List, map}
 use Rattle.cmd_text.specs.Grammar.{line_text, make_text}
 use Rattle.cmd_text.specs.Files.{make_list, laid_out, IsFile, IsFirstBad}
+use Rattle.cmd_text.specs.Past.{IsFirstPast}
 use Rattle.cmd_text.specs.declared.script.Script.{Script}
 
 -- a text is the file of one script
@@ -27,3 +28,7 @@ script_text s = laid_out 1 (map (λ c. (c.line, line_text c)) s.commands ++ map 
 -- a script that was read is written out so that it is read again
 abbrev pub ScriptsAreReadAgain : Type 0
 ScriptsAreReadAgain = (text : List ℕ) (s : Script) → IsFile text s → IsFile (script_text s) s
+
+-- over at most 20 metaslabs no file has a command past the limit of commands times metaslabs
+abbrev pub FilesAreFewForFewMetaslabs : Type 0
+FilesAreFewForFewMetaslabs = (text : List ℕ) (s : Script) → IsFile text s → (metaslabs line : ℕ) → metaslabs ≤ 20 → IsFirstPast s metaslabs line → ⊥

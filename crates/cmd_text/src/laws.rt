@@ -1,6 +1,6 @@
 //! Laws of command files: each function does nothing, and its contract is the law.
 
-ghost use Rattle.cmd_text.specs.Laws.{FilesHaveOneScript, BadTextsHaveOneLine, FilesAreNotBad, TextsAreOneOfBoth, ScriptsAreReadAgain};
+ghost use Rattle.cmd_text.specs.Laws.{FilesHaveOneScript, BadTextsHaveOneLine, FilesAreNotBad, TextsAreOneOfBoth, ScriptsAreReadAgain, FilesAreFewForFewMetaslabs};
 
 /// A text is the file of at most one script.
 pub fn files_have_one_script()
@@ -25,4 +25,9 @@ pub fn texts_are_one_of_both()
 /// The text of a script that was read, with each command in its line and nothing else, is read as this script.
 pub fn scripts_are_read_again()
     ensures { ScriptsAreReadAgain }
+{}
+
+/// Over at most 20 metaslabs, so over one, no file has a command past the limit of commands times metaslabs.
+pub fn files_are_few_for_few_metaslabs()
+    ensures { FilesAreFewForFewMetaslabs }
 {}

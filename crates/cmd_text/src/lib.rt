@@ -9,9 +9,11 @@
 pub mod fields;
 pub mod laws;
 mod lines;
+mod past;
 mod reader;
 mod reading;
 mod script;
 
+pub use past::first_past;
 pub use reading::{Front, read_commands, read_front};
 pub use script::{Command, MAKE_LANES, MAX_LINE_BYTES, MAX_WORKERS, Make, Script, TextFault, What};

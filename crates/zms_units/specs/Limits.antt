@@ -34,6 +34,10 @@ MAX_LANES = constants.MAX_LANES
 abbrev pub MAX_COMMANDS : ℕ
 MAX_COMMANDS = constants.MAX_COMMANDS
 
+-- the most that commands times metaslabs may be
+abbrev pub MAX_COMMANDS_TIMES_METASLABS : ℕ
+MAX_COMMANDS_TIMES_METASLABS = constants.MAX_COMMANDS_TIMES_METASLABS
+
 abbrev pub MAX_TEXT_BYTES : ℕ
 MAX_TEXT_BYTES = constants.MAX_TEXT_BYTES
 

@@ -25,6 +25,9 @@ pub const MAX_LANES: u8 = 16;
 /// How many commands a run may have.
 pub const MAX_COMMANDS: usize = 200_000;
 
+/// The most that the number of a run's commands times the number of its metaslabs may be.
+pub const MAX_COMMANDS_TIMES_METASLABS: u64 = 4_194_304;
+
 /// How many bytes a command file may have.
 pub const MAX_TEXT_BYTES: usize = 16_777_216;
 
