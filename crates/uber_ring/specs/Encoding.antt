@@ -70,6 +70,12 @@ pub record Names (uber : Uber) (table : Table) : Type 0 where
   pub version : uber.version ≡ 1
   pub table_len : uber.table_len ≡ len_of table
 
+-- the digest that an uberblock names is that of the bytes of a table
+pub record HasDigestOf (uber : Uber) (table : Table) : Type 0 where
+  pub bytes : List ℕ
+  pub encoded : IsEncoded bytes table
+  pub digest : sha256 bytes ≡ uber.table_digest
+
 -- the image has the bytes of a table where an uberblock names them, and their digest is the one that it names
 pub record IsWrittenAs (image : List ℕ) (uber : Uber) (table : Table) : Type 0 where
   pub bytes : IsEncoded (bytes_at image (table_place uber.group.0) uber.table_len) table

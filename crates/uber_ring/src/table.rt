@@ -8,7 +8,7 @@ ghost use Rattle.vdev_map.specs.Limits.{IsHead};
 ghost use Rattle.vdev_map.specs.Places.{table_place};
 ghost use Rattle.vdev_map.specs.Tables.{IsGroup, IsTable};
 ghost use Rattle.vdev_map.specs.declared.layout.Head.{Head};
-ghost use Rattle.uber_ring.specs.Encoding.{len_of, Names, IsWrittenAs, IsFailure};
+ghost use Rattle.uber_ring.specs.Encoding.{len_of, Names, HasDigestOf, IsWrittenAs, IsFailure};
 ghost use Rattle.uber_ring.specs.Numbers.{bytes_at};
 ghost use Rattle.uber_ring.specs.Slots.{IsUber};
 ghost use Rattle.uber_ring.specs.TableBytes.{table_in};
@@ -29,12 +29,16 @@ pub fn write_table<D: Disk>(alloc: Global, disk: &mut D, table: &Table) -> Resul
     requires len { len_of table.now ≤ 262144 }
     ensures limits { IfOk result (λ uber. IsUber uber) }
     ensures names { IfOk result (λ uber. Names uber table.now) }
+    // Whatever the device does.
+    ensures digest { IfOk result (λ uber. HasDigestOf uber table.now) }
     ensures encoded { Tells (D.state disk.old) → IfOk result (λ uber. IsWrittenAs (bytes_of (D.state disk.new)) uber table.now) }
     // What was written is read again, under every head that the table fits.
     ensures written { Tells (D.state disk.old) → IfOk result (λ uber. (head : Head) → IsTable head table.now → HasTable (bytes_of (D.state disk.new)) head uber table.now) }
     ensures spares { Tells (D.state disk.old) → Spares (Outside (table_place table.now.group.0) (len_of table.now)) (D.state disk.old) (D.state disk.new) }
     ensures flushes { Tells (D.state disk.old) → (D.state disk.new).flushes ≡ (D.state disk.old).flushes }
     ensures err { IfErr result (λ fault. IsFailure fault) }
+    // Memory runs out before the device is touched.
+    ensures memory { Tells (D.state disk.old) → IsErrOf result TableFault.Memory → Untouched (D.state disk.old) (D.state disk.new) }
     ensures steady { (IsErrOf result TableFault.Failed → ⊥) → D.faults disk.new ≡ D.faults disk.old }
     ensures failed { IsErrOf result TableFault.Failed → D.faults disk.new ≡ one_more (D.faults disk.old) }
 {
