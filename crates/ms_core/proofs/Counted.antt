@@ -1,7 +1,6 @@
 -- The totals of a metaslab, after each act.
-use Rattle.std.proofs.Common.{◌≡◌, ℕ, ◌+◌, ◌-◌, ◌≤◌, ◌<◌, Bool, true, false, cond, Some, None, List, [], refl, sym, ◌∙◌, ap, arith}
-use Rattle.ms_core.proofs.Words.{noted, ◌||◌, ◌&&◌, not, lt-ltb, Seg, Group, covers, end_of, units_in, covers_true, units_same, units_none, units_or, units_seg, all_units, Sets, size_of, Origin, LastAct, granted, freed, taken_back, untouched, act_on, last_act, is_grant, settled_by, settled_group, keeps_busy, is_live, is_deferred, is_given, live_units, deferred_units, IsFreeOfAll, MayGrant, MayFree, MayTakeBack, IsLegal, Act, Grant, Free, Unalloc, Settle, Noted, last_act-push, settled_group-push, vacant_free, leaves_units, still_act, granted_by_live, live_not_given, given_busy, open_settled, vacant_next, Mirrors, deferred_of}
-use Rattle.ms_core.proofs.Narrowing.{size_down, range_le}
+use Rattle.std.proofs.Common.{◌≡◌, ℕ, ◌+◌, ◌-◌, ◌≤◌, Bool, true, false, cond, Some, None, List, [], refl, sym, ◌∙◌, ap, arith}
+use Rattle.ms_core.proofs.Words.{noted, ◌||◌, ◌&&◌, not, and_false, lt-ltb, Seg, Group, covers, end_of, units_in, covers_true, units_same, units_none, units_or, units_seg, Sets, Origin, LastAct, granted, freed, taken_back, untouched, act_on, last_act, is_grant, settled_by, settled_group, keeps_busy, is_live, is_deferred, is_given, live_units, deferred_units, IsFreeOfAll, MayGrant, MayFree, MayTakeBack, IsLegal, Act, Grant, Free, Unalloc, Settle, Noted, last_act-push, settled_group-push, vacant_free, leaves_units, still_act, granted_by_live, live_not_given, given_busy, open_settled, vacant_next, Mirrors, deferred_of}
 
 -- before the first note
 
@@ -19,14 +18,24 @@ deferred_first o = units_none (is_deferred o []) o.units (λ u. first_deferred (
 pub live_first : (o : Origin) → live_units o [] ≡ units_in o.base o.units
 live_first o = units_same (is_live o []) o.base o.units (λ u. first_live (o.base u) o.opened)
 
--- sets that a segment joins or leaves
+-- a set that has all units of a segment, or none
 
-joined : (before after : ℕ → Bool) (seg : Seg) (units : ℕ) → end_of seg ≤ units → ((u : ℕ) → after u ≡ (covers seg u || before u)) → ((u : ℕ) → covers seg u ≡ true → before u ≡ false)
-    → units_in after units ≡ units_in before units + seg.count
-joined before after seg units within is apart =
-    let e : units_in after units ≡ units_in (λ u. covers seg u || before u) units = units_same after (λ u. covers seg u || before u) units is in
-    let f : units_in (λ u. covers seg u || before u) units ≡ units_in (covers seg) units + units_in before units = units_or (covers seg) before units apart in
-    omega (arith, units_seg seg units within)
+split_in : (c x : Bool) → (c ≡ true → x ≡ true) → x ≡ (c || (not c && x))
+split_in true x all = all refl
+split_in false x all = refl
+
+split_out : (c x : Bool) → (c ≡ true → x ≡ false) → x ≡ (not c && x)
+split_out true x none = none refl
+split_out false x none = refl
+
+apart : (c x : Bool) → c ≡ true → (not c && x) ≡ false
+apart c x e = rw e refl
+
+split : (set : ℕ → Bool) (seg : Seg) (units : ℕ) (has : Bool) → end_of seg ≤ units → ((u : ℕ) → covers seg u ≡ true → set u ≡ has) → units_in set units ≡ units_in (λ u. not (covers seg u) && set u) units + cond has seg.count 0
+split set seg units true within all =
+    let e : units_in set units ≡ units_in (λ u. covers seg u || (not (covers seg u) && set u)) units = units_same _ _ units (λ u. split_in (covers seg u) (set u) (all u)) in
+    omega (arith, units_or (covers seg) (λ u. not (covers seg u) && set u) units (λ u. apart (covers seg u) (set u)), units_seg seg units within)
+split set seg units false within none = omega (arith, units_same set (λ u. not (covers seg u) && set u) units (λ u. split_out (covers seg u) (set u) (none u)))
 
 -- what is deferred is busy, and not handed out
 abbrev waits : ℕ → LastAct → Bool
@@ -41,38 +50,17 @@ deferred_push o h lane act u =
     ap (λ n. waits n (last_act o (noted h lane act) u)) (settled_group-push o h (record { lane = lane; act = act }))
     ∙ ap (waits (settled_by (settled_group o h) act)) (last_act-push o h (record { lane = lane; act = act }) u)
 
--- one unit
+-- one unit of which a segment's act leaves another last act
 
-live_by_grant : (c : Bool) (lane g : ℕ) (last : LastAct) → is_grant (cond c (granted (Some lane) g) last) ≡ (c || is_grant last)
-live_by_grant true lane g last = refl
-live_by_grant false lane g last = refl
+same_out : (c : Bool) (f : LastAct → Bool) (now last : LastAct) → (not c && f last) ≡ (not c && f (cond c now last))
+same_out true f now last = refl
+same_out false f now last = refl
 
-waits_by_grant : (c : Bool) (s lane g : ℕ) (last : LastAct) → (c ≡ true → waits s last ≡ false) → waits s (cond c (granted (Some lane) g) last) ≡ waits s last
-waits_by_grant true s lane g last none = sym (none refl)
-waits_by_grant false s lane g last none = refl
-
--- a free or a take-back takes what was handed out
-live_before : (c : Bool) (now last : LastAct) → is_grant now ≡ false → (c ≡ true → is_grant last ≡ true) → is_grant last ≡ (c || is_grant (cond c now last))
-live_before true now last gone live = live refl
-live_before false now last gone live = refl
-
-not_live_after : (c : Bool) (now last : LastAct) → is_grant now ≡ false → c ≡ true → is_grant (cond c now last) ≡ false
-not_live_after true now last gone e = gone
-not_live_after false now last gone e = absurd (cc)
+now_in : (c : Bool) (f : LastAct → Bool) (now last : LastAct) → c ≡ true → f (cond c now last) ≡ f now
+now_in c f now last e = rw e refl
 
 waits_live : (s : ℕ) (last : LastAct) → is_grant last ≡ true → waits s last ≡ false
-waits_live s last e = rw e (none_and (keeps_busy s last)) where
-  none_and : (b : Bool) → (b && false) ≡ false
-  none_and true = refl
-  none_and false = refl
-
-waits_by_free : (c : Bool) (s g : ℕ) (last : LastAct) → s < g + 2 → waits s (cond c (freed g) last) ≡ (c || waits s last)
-waits_by_free true s g last near = rw (lt-ltb s (g + 2) near) refl
-waits_by_free false s g last near = refl
-
-waits_by_unalloc : (c : Bool) (s : ℕ) (last : LastAct) → (c ≡ true → is_grant last ≡ true) → waits s (cond c taken_back last) ≡ waits s last
-waits_by_unalloc true s last live = sym (waits_live s last (live refl))
-waits_by_unalloc false s last live = refl
+waits_live s last e = rw e (and_false (keeps_busy s last))
 
 -- what waits until a group settles is what it vacates, and what waits on
 waits_on : (given busy later live : Bool) → (given || not busy) ≡ not later → (given ≡ true → busy ≡ true) → (given ≡ true → live ≡ false)
@@ -88,54 +76,51 @@ waits_apart true busy true live next e = absurd (cc)
 waits_apart true busy false live next e = refl
 waits_apart false busy later live next e = absurd (cc)
 
+-- an act of a segment, which settles no group: what it makes of how many units have something, all of the segment or none
+module _ (o : Origin) (h : List Noted) (lane : ℕ) (act : Act) (seg : Seg) (now : LastAct) (within : end_of seg ≤ o.units) (does : (u : ℕ) (last : LastAct) → act_on u last lane act ≡ cond (covers seg u) now last) where
+  changed : (f : LastAct → Bool) (before after : ℕ → Bool) (was : Bool) → ((u : ℕ) → before u ≡ f (last_act o h u)) → ((u : ℕ) → after u ≡ f (act_on u (last_act o h u) lane act))
+      → ((u : ℕ) → covers seg u ≡ true → before u ≡ was) → units_in after o.units + cond was seg.count 0 ≡ units_in before o.units + cond (f now) seg.count 0
+  changed f before after was is_before is_after all =
+      let here : (u : ℕ) → after u ≡ f (cond (covers seg u) now (last_act o h u)) = λ u. is_after u ∙ ap f (does u (last_act o h u)) in
+      omega (
+        arith,
+        split before seg o.units was within all,
+        split after seg o.units (f now) within (λ u c. here u ∙ now_in (covers seg u) f now (last_act o h u) c),
+        units_same (λ u. not (covers seg u) && before u) (λ u. not (covers seg u) && after u) o.units
+            (λ u. ap (λ b. not (covers seg u) && b) (is_before u) ∙ (same_out (covers seg u) f now (last_act o h u) ∙ ap (λ b. not (covers seg u) && b) (sym (here u)))),
+      )
+
+  -- what was handed out, or not, and not deferred
+  on_segment : settled_by (settled_group o h) act ≡ settled_group o h → (was : Bool) → ((u : ℕ) → covers seg u ≡ true → (is_live o h u ≡ was) × (is_deferred o h u ≡ false))
+      → (live_units o (noted h lane act) + cond was seg.count 0 ≡ live_units o h + cond (is_grant now) seg.count 0)
+      × (deferred_units o (noted h lane act) ≡ deferred_units o h + cond (waits (settled_group o h) now) seg.count 0)
+  on_segment same was all =
+      let e = changed (waits (settled_group o h)) (is_deferred o h) (is_deferred o (noted h lane act)) false (λ u. refl)
+      (λ u. deferred_push o h lane act u ∙ ap (λ n. waits n (act_on u (last_act o h u) lane act)) same) (λ u c. (all u c).1) in
+      (changed is_grant (is_live o h) (is_live o (noted h lane act)) was (λ u. refl) (live_push o h lane act) (λ u c. (all u c).0), omega (arith, e))
+
 module _ (o : Origin) (h : List Noted) (legal : IsLegal o h) where
-  vacant_in : (group : ℕ) (seg : Seg) → MayGrant o h group seg → (u : ℕ) → covers seg u ≡ true → IsFreeOfAll o h u
-  vacant_in group seg may u c = vacant_free o h u legal (may.vacant u (covers_true seg u c))
+  live_waits : (u : ℕ) → is_live o h u ≡ true → (is_live o h u ≡ true) × (is_deferred o h u ≡ false)
+  live_waits u live = (live, waits_live (settled_group o h) (last_act o h u) live)
 
-  live_in : (group : ℕ) (seg : Seg) → MayFree o h group seg → (u : ℕ) → covers seg u ≡ true → is_live o h u ≡ true
-  live_in group seg may u c = granted_by_live group (last_act o h u) (may.live u (covers_true seg u c))
+  module _ (lane : ℕ) (group : Group) (seg : Seg) where
+    pub grant_totals : MayGrant o h group.0 seg → (live_units o (noted h lane (Grant group seg)) ≡ live_units o h + seg.count) × (deferred_units o (noted h lane (Grant group seg)) ≡ deferred_units o h)
+    grant_totals may =
+        let t = on_segment o h lane (Grant group seg) seg (granted (Some lane) group.0) may.within.within (λ u last. refl) refl false
+        (λ u c. let free : IsFreeOfAll o h u = vacant_free o h u legal (may.vacant u (covers_true seg u c)) in (free.live, free.deferred)) in
+        (omega (arith, t.0), omega (arith, t.1))
 
-  own_in : (lane group : ℕ) (seg : Seg) → MayTakeBack o h lane group seg → (u : ℕ) → covers seg u ≡ true → is_live o h u ≡ true
-  own_in lane group seg may u c = ap is_grant (may.own u (covers_true seg u c))
+    pub free_totals : MayFree o h group.0 seg → (live_units o (noted h lane (Free group seg)) + seg.count ≡ live_units o h) × (deferred_units o (noted h lane (Free group seg)) ≡ deferred_units o h + seg.count)
+    free_totals may =
+        let near : waits (settled_group o h) (freed group.0) ≡ true = rw (lt-ltb (settled_group o h) (group.0 + 2) (omega (arith, open_settled o h legal group.0 may.open_group.above))) refl in
+        let t = on_segment o h lane (Free group seg) seg (freed group.0) may.within.within (λ u last. refl) refl true
+        (λ u c. live_waits u (granted_by_live group.0 (last_act o h u) (may.live u (covers_true seg u c)))) in
+        (omega (arith, t.0), t.1 ∙ rw near refl)
 
-  pub live_grant : (lane : ℕ) (group : Group) (seg : Seg) → MayGrant o h group.0 seg → live_units o (noted h lane (Grant group seg)) ≡ live_units o h + seg.count
-  live_grant lane group seg may =
-      joined (is_live o h) (is_live o (noted h lane (Grant group seg))) seg o.units may.within.within
-      (λ u. live_push o h lane (Grant group seg) u ∙ live_by_grant (covers seg u) lane group.0 (last_act o h u))
-      (λ u c. (vacant_in group.0 seg may u c).live)
-
-  pub deferred_grant : (lane : ℕ) (group : Group) (seg : Seg) → MayGrant o h group.0 seg → deferred_units o (noted h lane (Grant group seg)) ≡ deferred_units o h
-  deferred_grant lane group seg may =
-      units_same (is_deferred o (noted h lane (Grant group seg))) (is_deferred o h) o.units
-      (λ u. deferred_push o h lane (Grant group seg) u
-      ∙ waits_by_grant (covers seg u) (settled_group o h) lane group.0 (last_act o h u) (λ c. (vacant_in group.0 seg may u c).deferred))
-
-  -- a segment that was handed out is not any more
-  live_gone : (lane : ℕ) (act : Act) (seg : Seg) (now : LastAct) → is_grant now ≡ false → ((u : ℕ) (last : LastAct) → act_on u last lane act ≡ cond (covers seg u) now last) → end_of seg ≤ o.units
-      → ((u : ℕ) → covers seg u ≡ true → is_live o h u ≡ true) → live_units o (noted h lane act) + seg.count ≡ live_units o h
-  live_gone lane act seg now gone does within live =
-      let after : (u : ℕ) → is_live o (noted h lane act) u ≡ is_grant (cond (covers seg u) now (last_act o h u)) = λ u. live_push o h lane act u ∙ ap is_grant (does u (last_act o h u)) in
-      sym (joined (is_live o (noted h lane act)) (is_live o h) seg o.units within
-      (λ u. live_before (covers seg u) now (last_act o h u) gone (live u) ∙ ap (λ b. covers seg u || b) (sym (after u)))
-      (λ u c. after u ∙ not_live_after (covers seg u) now (last_act o h u) gone c))
-
-  pub live_free : (lane : ℕ) (group : Group) (seg : Seg) → MayFree o h group.0 seg → live_units o (noted h lane (Free group seg)) + seg.count ≡ live_units o h
-  live_free lane group seg may = live_gone lane (Free group seg) seg (freed group.0) refl (λ u last. refl) may.within.within (live_in group.0 seg may)
-
-  pub live_unalloc : (lane : ℕ) (group : Group) (seg : Seg) → MayTakeBack o h lane group.0 seg → live_units o (noted h lane (Unalloc group seg)) + seg.count ≡ live_units o h
-  live_unalloc lane group seg may = live_gone lane (Unalloc group seg) seg taken_back refl (λ u last. refl) may.within.within (own_in lane group.0 seg may)
-
-  pub deferred_free : (lane : ℕ) (group : Group) (seg : Seg) → MayFree o h group.0 seg → deferred_units o (noted h lane (Free group seg)) ≡ deferred_units o h + seg.count
-  deferred_free lane group seg may =
-      joined (is_deferred o h) (is_deferred o (noted h lane (Free group seg))) seg o.units may.within.within
-      (λ u. deferred_push o h lane (Free group seg) u
-      ∙ waits_by_free (covers seg u) (settled_group o h) group.0 (last_act o h u) (omega (arith, open_settled o h legal group.0 may.open_group.above)))
-      (λ u c. waits_live (settled_group o h) (last_act o h u) (live_in group.0 seg may u c))
-
-  pub deferred_unalloc : (lane : ℕ) (group : Group) (seg : Seg) → MayTakeBack o h lane group.0 seg → deferred_units o (noted h lane (Unalloc group seg)) ≡ deferred_units o h
-  deferred_unalloc lane group seg may =
-      units_same (is_deferred o (noted h lane (Unalloc group seg))) (is_deferred o h) o.units
-      (λ u. deferred_push o h lane (Unalloc group seg) u ∙ waits_by_unalloc (covers seg u) (settled_group o h) (last_act o h u) (own_in lane group.0 seg may u))
+    pub unalloc_totals : MayTakeBack o h lane group.0 seg → (live_units o (noted h lane (Unalloc group seg)) + seg.count ≡ live_units o h) × (deferred_units o (noted h lane (Unalloc group seg)) ≡ deferred_units o h)
+    unalloc_totals may =
+        let t = on_segment o h lane (Unalloc group seg) seg taken_back may.within.within (λ u last. refl) refl true (λ u c. live_waits u (ap is_grant (may.own u (covers_true seg u c)))) in
+        (omega (arith, t.0), omega (arith, t.1))
 
   -- an act that changes no unit
   pub live_still : (lane : ℕ) (act : Act) → leaves_units act ≡ true → live_units o (noted h lane act) ≡ live_units o h
@@ -171,7 +156,3 @@ module _ (o : Origin) (h : List Noted) (legal : IsLegal o h) where
           by_live : (b : Bool) → is_live o h u ≡ b → b ≡ false
           by_live true e = let none : is_given (group.0 - 2) h u ≡ false = live_not_given o h legal (group.0 - 2) u (omega arith) e in cc
           by_live false e = refl
-
--- what a tree counts are the units of its set
-pub size_units : (o : Origin) (h : List Noted) (sets : Sets) → Mirrors o h sets → o.units ≤ 131072 → (tree : ℕ) → size_of (sets tree) ≡ units_in (sets tree) o.units
-size_units o h sets m most tree = size_down (sets tree) o.units all_units (range_le o.units most) (m.within tree)

@@ -1,6 +1,7 @@
 -- What a look through the segment, the trees or the notes finds.
 use Rattle.std.proofs.Common.{◌≡◌, ℕ, zero, suc, ◌+◌, ◌-◌, ◌≤◌, ◌<◌, Bool, true, false, Option, Some, None, List, [], ◌∷◌, ◌++◌, length, get_or, take, drop, refl, sym, ◌∙◌, ap, subst, arith, ◌⊎◌, inl, inr, IfSome, IfNone}
-use Rattle.ms_core.proofs.Words.{◌||◌, ◌%◌, take-append-drop, get_or-take, length-take, Seg, Covers, or_cases, or_false_right, Sets, Origin, granted, act_on, last_act, settled_group, collected_group, is_loaded, MayDo, IsLegal, IsWithin, IsGrantedBy, Act, Settle, Noted, last_act-push, legal_before, legal_last, last_gained, Finds, in_any, IsLowestLacking, IsSettleBefore, Mirrors, IsBarred, by_vacant, by_given, by_gained, allocating_of, number_of, Tree, Allocatable, Allocating, Freeing, Deferred}
+use Rattle.std.proofs.lemmas.Bool.{or_parts}
+use Rattle.ms_core.proofs.Words.{◌||◌, ◌%◌, take-append-drop, get_or-take, length-take, Seg, Covers, or_cases, Sets, Origin, granted, act_on, last_act, settled_group, collected_group, is_loaded, MayDo, IsLegal, IsWithin, IsGrantedBy, Act, Settle, Noted, last_act-push, legal_before, legal_last, last_gained, Finds, in_any, IsLowestLacking, IsSettleBefore, Mirrors, IsBarred, by_vacant, by_given, by_gained, allocating_of, number_of, Tree, Allocatable, Allocating, Freeing, Deferred}
 use Rattle.ms_core.proofs.Barring.{barred, live_of_trees, gained_near}
 
 pub finds_along : (p q : ℕ → Bool) (seg : Seg) (found : Option ℕ) → ((u : ℕ) → p u ≡ q u) → Finds p seg found → Finds q seg found
@@ -45,14 +46,10 @@ settle_stops o notes i d u lane group legal some le ago same e =
 
 -- what bars a free, tree by tree
 
-or_false_left : (a b : Bool) → (a || b) ≡ false → a ≡ false
-or_false_left true b e = cc
-or_false_left false b e = refl
-
 any_none : (sets : Sets) (trees : List Tree) (u : ℕ) → in_any sets trees u ≡ false → (k : ℕ) → k < length trees → sets (number_of (get_or trees k Allocatable)) u ≡ false
 any_none sets [] u e k l = absurd (omega arith)
-any_none sets (t ∷ ts) u e zero l = or_false_left (sets (number_of t) u) (in_any sets ts u) e
-any_none sets (t ∷ ts) u e (suc k) l = any_none sets ts u (or_false_right (sets (number_of t) u) (in_any sets ts u) e) k (omega arith)
+any_none sets (t ∷ ts) u e zero l = (or_parts (sets (number_of t) u) (in_any sets ts u) e).0
+any_none sets (t ∷ ts) u e (suc k) l = any_none sets ts u (or_parts (sets (number_of t) u) (in_any sets ts u) e).1 k (omega arith)
 
 any_some : (sets : Sets) (trees : List Tree) (u : ℕ) → in_any sets trees u ≡ true → (k : ℕ) × (k < length trees) × (sets (number_of (get_or trees k Allocatable)) u ≡ true)
 any_some sets [] u e = absurd (cc)
@@ -114,10 +111,10 @@ module _ (o : Origin) (h : List Noted) (sets : Sets) (legal : IsLegal o h) (m : 
   free_so : (u : ℕ) → u < o.units → bars u ≡ false → IsGrantedBy group (last_act o h u)
   free_so u inside e = live_of_trees o h sets legal m loaded group u inside above vacant given gained where
     fixed : in_any sets not_handed_out u ≡ false
-    fixed = or_false_left (in_any sets not_handed_out u) (in_any sets (take many (later_trees group)) u) e
+    fixed = (or_parts (in_any sets not_handed_out u) (in_any sets (take many (later_trees group)) u) e).0
 
     moving : in_any sets (take many (later_trees group)) u ≡ false
-    moving = or_false_right (in_any sets not_handed_out u) (in_any sets (take many (later_trees group)) u) e
+    moving = (or_parts (in_any sets not_handed_out u) (in_any sets (take many (later_trees group)) u) e).1
 
     vacant : sets 0 u ≡ false
     vacant = any_none sets not_handed_out u fixed 0 (omega arith)

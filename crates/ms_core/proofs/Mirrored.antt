@@ -1,6 +1,7 @@
 -- The trees of a metaslab say what its journal says, after each act.
 use Rattle.std.proofs.Common.{◌≡◌, ℕ, ◌+◌, ◌-◌, ◌≤◌, ◌<◌, Bool, true, false, cond, Some, List, [], ◌∷◌, ◌++◌, refl, sym, ◌∙◌, ap, subst, arith, ◌⊎◌, inl, inr}
-use Rattle.ms_core.proofs.Words.{noted, ◌||◌, ◌&&◌, not, ◌==◌, ◌%◌, lt-ltb, Seg, Group, covers, le_or, true_or_false, covers_true, covers_high, or_false, or_right, Sets, OthersStay, OthersStayBut, Origin, LastAct, granted, freed, taken_back, act_on, last_act, settled_by, settled_group, collected_by, collected_group, loaded_by, is_loaded, keeps_busy, is_vacant, gained_by, is_gained, gives, is_given, IsOpenGroup, IsWithin, MayGrant, MayFree, MayTakeBack, IsLegal, Act, Grant, Free, Unalloc, Collect, Settle, Load, Noted, last_act-push, settled_group-push, collected_group-push, is_loaded-push, is_gained-push, is_given-push, and_false, settled_le_collected, ChangesIn, gained_quiet, gives_quiet, own_group, gained_far, given_far, granted_by_live, live_busy, vacant_next, Mirrors, Settles, allocating_of, freeing_of, deferred_of}
+use Rattle.std.proofs.lemmas.Bool.{cases_eq}
+use Rattle.ms_core.proofs.Words.{noted, ◌||◌, ◌&&◌, not, ◌==◌, ◌%◌, lt-ltb, Seg, Group, covers, le_or, true_or_false, covers_true, covers_high, or_false, or_right, Sets, OthersStay, OthersStayBut, Origin, LastAct, granted, freed, taken_back, act_on, last_act, settled_by, settled_group, collected_by, collected_group, loaded_by, is_loaded, keeps_busy, is_vacant, gained_by, is_gained, gives, is_given, IsOpenGroup, IsWithin, MayGrant, MayFree, MayTakeBack, IsLegal, Act, Grant, Free, Unalloc, Collect, Settle, Load, Noted, last_act-push, settled_group-push, collected_group-push, is_loaded-push, is_gained-push, is_given-push, and_false, settled_le_collected, ChangesIn, gained_quiet, gives_quiet, own_group, gained_far, given_far, granted_by_live, live_busy, vacant_next, Mirrors, Settles, Adds, Moves, Clears, Fills, covered, allocating_of, freeing_of, deferred_of}
 
 -- before the first note all trees are empty
 pub mirrors_first : (o : Origin) (sets : Sets) → ((tree u : ℕ) → sets tree u ≡ false) → Mirrors o [] sets
@@ -42,18 +43,9 @@ mirrors_after o h lane act new s c l is_s is_c is_l a =
       deferred = λ t u low high. a.deferred t u (omega arith) (omega arith) ∙ sym (is_given-push (t - 2) h note u);
     }
 
--- numbers of trees
-
-same_or : (a b : ℕ) → (a ≡ b) ⊎ (a ≡ b → ⊥)
-same_or a b = by_order (le_or a b) (le_or b a) where
-  by_order : (a ≤ b) ⊎ (b < a) → (b ≤ a) ⊎ (a < b) → (a ≡ b) ⊎ (a ≡ b → ⊥)
-  by_order (inl low) (inl high) = inl (omega arith)
-  by_order (inl low) (inr high) = inr (λ e. omega arith)
-  by_order (inr low) high = inr (λ e. omega arith)
-
 -- what holds of a group, and of each other one
 by_group : (P : ℕ → Type 0) (t g : ℕ) → P g → ((t ≡ g → ⊥) → P t) → P t
-by_group P t g own other = by (same_or t g) where
+by_group P t g own other = by (cases_eq t g) where
   by : (t ≡ g) ⊎ (t ≡ g → ⊥) → P t
   by (inl e) = subst P (sym e) own
   by (inr e) = other e
@@ -65,7 +57,7 @@ two_apart : (s t : ℕ) → t ≡ s + 2 → t % 2 ≡ (s + 1) % 2 → ⊥
 two_apart s t next e = omega arith
 
 none_in : (sets new : Sets) (first second u : ℕ) → OthersStayBut sets new first second → ((tree : ℕ) → sets tree u ≡ false) → new first u ≡ false → new second u ≡ false → (tree : ℕ) → new tree u ≡ false
-none_in sets new first second u others none a b tree = by_tree (same_or tree first) (same_or tree second) where
+none_in sets new first second u others none a b tree = by_tree (cases_eq tree first) (cases_eq tree second) where
   by_tree : (tree ≡ first) ⊎ (tree ≡ first → ⊥) → (tree ≡ second) ⊎ (tree ≡ second → ⊥) → new tree u ≡ false
   by_tree (inl e) f = subst (λ n. new n u ≡ false) (sym e) a
   by_tree (inr e) (inl f) = subst (λ n. new n u ≡ false) (sym f) b
@@ -160,49 +152,41 @@ module _ (o : Origin) (h : List Noted) (sets : Sets) (legal : IsLegal o h) (m : 
         near : group.0 ≤ collected_group o h + 4
         near = omega (arith, open_group.near, (order o h sets legal m))
 
-  pub mirrors_grant : (lane : ℕ) (group : Group) (seg : Seg) → MayGrant o h group.0 seg
-      → ((u : ℕ) → new 0 u ≡ (not (covers seg u) && sets 0 u))
-      → ((u : ℕ) → new (allocating_of group.0) u ≡ (covers seg u || sets (allocating_of group.0) u))
-      → OthersStayBut sets new 0 (allocating_of group.0) → Mirrors o (noted h lane (Grant group seg)) new
-  mirrors_grant lane group seg may left gained others =
+  pub mirrors_grant : (lane : ℕ) (group : Group) (seg : Seg) → MayGrant o h group.0 seg → Moves sets new 0 (allocating_of group.0) seg → Mirrors o (noted h lane (Grant group seg)) new
+  mirrors_grant lane group seg may moved =
       mirrors_after o h lane (Grant group seg) new _ _ true refl refl may.takes.loaded
       (trades true lane group seg (Grant group seg) may.takes.loaded may.open_group may.within
       (λ u b. ap (λ y. cond (y && covers seg u) true b) (own_group group.0 group.0 refl)) (λ t e f. e (sym f)) (λ t u. refl)
       (λ u. busy_by (covers seg u) (settled_group o h) (granted (Some lane) group.0) (last_act o h u))
-      (λ u. left u ∙ cut_is (covers seg u) (sets 0 u)) (λ u. gained u ∙ put_is (covers seg u) (sets (allocating_of group.0) u)) others)
+      (λ u. moved.left u ∙ cut_is (covers seg u) (sets 0 u)) (λ u. moved.added u ∙ put_is (covers seg u) (sets (allocating_of group.0) u)) moved.others)
 
-  pub mirrors_unalloc : (lane : ℕ) (group : Group) (seg : Seg) → MayTakeBack o h lane group.0 seg
-      → ((u : ℕ) → new 0 u ≡ (covers seg u || sets 0 u))
-      → ((u : ℕ) → new (allocating_of group.0) u ≡ (not (covers seg u) && sets (allocating_of group.0) u))
-      → OthersStayBut sets new 0 (allocating_of group.0) → Mirrors o (noted h lane (Unalloc group seg)) new
-  mirrors_unalloc lane group seg may back left others =
+  pub mirrors_unalloc : (lane : ℕ) (group : Group) (seg : Seg) → MayTakeBack o h lane group.0 seg → Moves sets new (allocating_of group.0) 0 seg → Mirrors o (noted h lane (Unalloc group seg)) new
+  mirrors_unalloc lane group seg may moved =
       mirrors_after o h lane (Unalloc group seg) new _ _ true refl refl may.loaded
       (trades false lane group seg (Unalloc group seg) may.loaded may.open_group may.within
       (λ u b. ap (λ y. cond (y && covers seg u) false b) (own_group group.0 group.0 refl)) (λ t e f. e (sym f)) (λ t u. refl)
       (λ u. busy_by (covers seg u) (settled_group o h) taken_back (last_act o h u))
-      (λ u. back u ∙ put_is (covers seg u) (sets 0 u)) (λ u. left u ∙ cut_is (covers seg u) (sets (allocating_of group.0) u)) others)
+      (λ u. moved.added u ∙ put_is (covers seg u) (sets 0 u)) (λ u. moved.left u ∙ cut_is (covers seg u) (sets (allocating_of group.0) u)) (λ tree u a b. moved.others tree u b a))
 
-  pub mirrors_free : (lane : ℕ) (group : Group) (seg : Seg) → MayFree o h group.0 seg
-      → ((u : ℕ) → new (freeing_of group.0) u ≡ (covers seg u || sets (freeing_of group.0) u))
-      → OthersStay sets new (freeing_of group.0) → Mirrors o (noted h lane (Free group seg)) new
-  mirrors_free lane group seg may given others =
+  pub mirrors_free : (lane : ℕ) (group : Group) (seg : Seg) → MayFree o h group.0 seg → Adds sets new (freeing_of group.0) seg → Mirrors o (noted h lane (Free group seg)) new
+  mirrors_free lane group seg may adds =
       mirrors_after o h lane (Free group seg) new _ _ true refl refl may.loaded (record {
         within = λ tree u above.
-            none_in_one sets new (freeing_of group.0) u others (λ n. m.within n u above)
-            (given u ∙ rw (covers_high seg u (omega (arith, may.within.within))) (m.within (freeing_of group.0) u above)) tree;
+            none_in_one sets new (freeing_of group.0) u adds.others (λ n. m.within n u above)
+            (adds.added u ∙ rw (covers_high seg u (omega (arith, may.within.within))) (m.within (freeing_of group.0) u above)) tree;
         vacant = λ _ u inside.
-            others 0 u (λ e. omega arith)
+            adds.others 0 u (λ e. omega arith)
             ∙ (m.vacant may.loaded u inside
             ∙ ap not (busy_free (covers seg u) (settled_group o h) group.0 (last_act o h u) (omega (arith, later))
             (λ c. live_busy (settled_group o h) (last_act o h u) (granted_by_live group.0 (last_act o h u) (may.live u (covers_true seg u c))))));
         unloaded = λ idle u. absurd (cc);
-        gained = λ t u low high. others (allocating_of t) u (λ e. omega arith) ∙ m.gained t u low high;
+        gained = λ t u low high. adds.others (allocating_of t) u (λ e. omega arith) ∙ m.gained t u low high;
         given = λ t u low high.
             by_group (λ n. new (freeing_of n) u ≡ (is_given n h u || gives n u act)) t group.0
-            (given u ∙ (ap (λ b. covers seg u || b) (m.given group.0 u later near) ∙ or_one (covers seg u) (group.0 == group.0) (is_given group.0 h u) (own_group group.0 group.0 refl)))
+            (adds.added u ∙ (ap (λ b. covers seg u || b) (m.given group.0 u later near) ∙ or_one (covers seg u) (group.0 == group.0) (is_given group.0 h u) (own_group group.0 group.0 refl)))
             (λ e. given_other t u act low high (gives_quiet t u act (λ f. e (sym f)))
-            (others (freeing_of t) u (λ f. four_apart (settled_group o h) t group.0 low high later near e (omega arith))));
-        deferred = λ t u low high. deferred_other t u act low high (gives_quiet (t - 2) u act (λ e. omega (arith, later))) (others (deferred_of t) u (λ e. omega arith));
+            (adds.others (freeing_of t) u (λ f. four_apart (settled_group o h) t group.0 low high later near e (omega arith))));
+        deferred = λ t u low high. deferred_other t u act low high (gives_quiet (t - 2) u act (λ e. omega (arith, later))) (adds.others (deferred_of t) u (λ e. omega arith));
       }) where
         act : Act
         act = Free group seg
@@ -213,31 +197,29 @@ module _ (o : Origin) (h : List Noted) (sets : Sets) (legal : IsLegal o h) (m : 
         near : group.0 ≤ settled_group o h + 4
         near = omega (arith, may.open_group.near)
 
-  pub mirrors_collect : (lane : ℕ) (group : Group) → group.0 ≡ collected_group o h + 1
-      → ((u : ℕ) → new (allocating_of group.0) u ≡ false) → OthersStay sets new (allocating_of group.0)
-      → Mirrors o (noted h lane (Collect group)) new
-  mirrors_collect lane group next empty others =
+  pub mirrors_collect : (lane : ℕ) (group : Group) → group.0 ≡ collected_group o h + 1 → Clears sets new (allocating_of group.0) → Mirrors o (noted h lane (Collect group)) new
+  mirrors_collect lane group next clears =
       mirrors_after o h lane (Collect group) new _ _ _ refl refl refl (record {
-        within = λ tree u above. none_in_one sets new (allocating_of group.0) u others (λ n. m.within n u above) (empty u) tree;
-        vacant = λ loaded u inside. others 0 u (λ e. omega arith) ∙ m.vacant loaded u inside;
-        unloaded = λ idle u. others 0 u (λ e. omega arith) ∙ m.unloaded idle u;
+        within = λ tree u above. none_in_one sets new (allocating_of group.0) u clears.others (λ n. m.within n u above) (clears.empty u) tree;
+        vacant = λ loaded u inside. clears.others 0 u (λ e. omega arith) ∙ m.vacant loaded u inside;
+        unloaded = λ idle u. clears.others 0 u (λ e. omega arith) ∙ m.unloaded idle u;
         gained = λ t u low high. gained_at t u low high (le_or t (collected_group o h + 4));
-        given = λ t u low high. given_other t u (Collect group) low high refl (others (freeing_of t) u (λ e. omega arith));
-        deferred = λ t u low high. deferred_other t u (Collect group) low high refl (others (deferred_of t) u (λ e. omega arith));
+        given = λ t u low high. given_other t u (Collect group) low high refl (clears.others (freeing_of t) u (λ e. omega arith));
+        deferred = λ t u low high. deferred_other t u (Collect group) low high refl (clears.others (deferred_of t) u (λ e. omega arith));
       }) where
         gained_at : (t u : ℕ) → group.0 < t → t ≤ group.0 + 4 → (t ≤ collected_group o h + 4) ⊎ (collected_group o h + 4 < t) → new (allocating_of t) u ≡ is_gained t h u
         gained_at t u low high (inl near) =
-            others (allocating_of t) u (λ e. four_apart (collected_group o h) t group.0 (omega arith) near (omega arith) (omega arith) (λ f. omega arith) (omega arith))
+            clears.others (allocating_of t) u (λ e. four_apart (collected_group o h) t group.0 (omega arith) near (omega arith) (omega arith) (λ f. omega arith) (omega arith))
             ∙ m.gained t u (omega arith) near
         gained_at t u low high (inr far) =
             let same : allocating_of t ≡ allocating_of group.0 = omega arith in
-            ap (λ n. new n u) same ∙ (empty u ∙ sym (gained_far o h t u legal (omega (arith, (order o h sets legal m)))))
+            ap (λ n. new n u) same ∙ (clears.empty u ∙ sym (gained_far o h t u legal (omega (arith, (order o h sets legal m)))))
 
   pub mirrors_settle : (lane : ℕ) (group : Group) → group.0 ≡ settled_group o h + 1 → group.0 ≤ collected_group o h
       → Settles (is_loaded h) sets new group.0 → Mirrors o (noted h lane (Settle group)) new
   mirrors_settle lane group next closed s =
       mirrors_after o h lane (Settle group) new _ _ _ refl refl refl (record {
-        within = λ tree u above. within_at u above tree (same_or tree 0) (same_or tree (deferred_of group.0)) (same_or tree (freeing_of group.0));
+        within = λ tree u above. within_at u above tree (cases_eq tree 0) (cases_eq tree (deferred_of group.0)) (cases_eq tree (freeing_of group.0));
         vacant = λ loaded u inside.
             s.vacant loaded u
             ∙ (ap (λ b. b || sets 0 u) (m.deferred group.0 u (omega arith) (omega arith))
@@ -277,15 +259,13 @@ module _ (o : Origin) (h : List Noted) (sets : Sets) (legal : IsLegal o h) (m : 
             let two : group.0 ≡ t - 2 = omega arith in
             ap (λ n. new n u) same ∙ (s.deferred u ∙ (m.given group.0 u (omega arith) (omega arith) ∙ ap (λ n. is_given n h u) two))
 
-  pub mirrors_load : (lane : ℕ) → is_loaded h ≡ false
-      → ((u : ℕ) → u < o.units → new 0 u ≡ is_vacant o h u) → ((u : ℕ) → o.units ≤ u → new 0 u ≡ false)
-      → OthersStay sets new 0 → Mirrors o (noted h lane Load) new
-  mirrors_load lane idle vacant above others =
+  pub mirrors_load : (lane : ℕ) (held : List Seg) → is_loaded h ≡ false → Fills sets new o.units held → ((u : ℕ) → u < o.units → not (covered held u) ≡ is_vacant o h u) → Mirrors o (noted h lane Load) new
+  mirrors_load lane held idle fills vacant =
       mirrors_after o h lane Load new _ _ _ refl refl refl (record {
-        within = λ tree u past. none_in_one sets new 0 u others (λ n. m.within n u past) (above u past) tree;
-        vacant = λ loaded u inside. vacant u inside;
+        within = λ tree u past. none_in_one sets new 0 u fills.others (λ n. m.within n u past) (fills.above u past) tree;
+        vacant = λ loaded u inside. fills.gaps u inside ∙ vacant u inside;
         unloaded = λ none u. absurd (cc);
-        gained = λ t u low high. others (allocating_of t) u (λ e. omega arith) ∙ m.gained t u low high;
-        given = λ t u low high. given_other t u Load low high refl (others (freeing_of t) u (λ e. omega arith));
-        deferred = λ t u low high. deferred_other t u Load low high refl (others (deferred_of t) u (λ e. omega arith));
+        gained = λ t u low high. fills.others (allocating_of t) u (λ e. omega arith) ∙ m.gained t u low high;
+        given = λ t u low high. given_other t u Load low high refl (fills.others (freeing_of t) u (λ e. omega arith));
+        deferred = λ t u low high. deferred_other t u Load low high refl (fills.others (deferred_of t) u (λ e. omega arith));
       })

@@ -1,5 +1,6 @@
 -- The runs of a set, as they are gone through by rising start.
 use Rattle.std.proofs.Common.{◌≡◌, ℕ, zero, suc, ◌+◌, ◌≤◌, ◌<◌, Bool, true, false, List, [], ◌∷◌, ◌++◌, length, refl, sym, ◌∙◌, ap, subst, arith, ◌⊎◌, inl, inr}
+use Rattle.std.proofs.lemmas.Bool.{false_from_ne_true}
 use Rattle.ms_core.proofs.Words.{◌||◌, not, Seg, end_of, covers, covered, Covers, AreApartFrom, begins_run, run_count, IsMaximalRun, IsLongFrom, IsFirstFrom, NoneFrom, AreMaximalRuns, le_or, same_not, true_and, covered-push, covers_yes, covers_low, or_none, or_right, or_false, apart_next, apart_push, apart_above, run_count-length, apart_maximal, ends_last, around, length-append}
 use Rattle.ms_core.proofs.Narrowing.{units_mono}
 
@@ -12,10 +13,6 @@ pub record Walks (set : ℕ → Bool) (units at : ℕ) (runs : List Seg) : Type 
   pub whole : (u : ℕ) → u < at → covered runs u ≡ set u
   pub begins : (u : ℕ) → at ≤ u → set u ≡ true → next ≤ u
   pub edge : (run : Seg) → IsMaximalRun set units run → at < end_of run → at ≤ run.start
-
-unless : (b : Bool) → (b ≡ true → ⊥) → b ≡ false
-unless true f = absurd (f refl)
-unless false f = refl
 
 module _ (set : ℕ → Bool) (units : ℕ) (none : (u : ℕ) → units ≤ u → set u ≡ false) (at : ℕ) (runs : List Seg) (w : Walks set units at runs) where
   -- above the place the runs cover nothing
@@ -40,7 +37,7 @@ module _ (set : ℕ → Bool) (units : ℕ) (none : (u : ℕ) → units ≤ u �
 
     -- between the place and the next run there is nothing, and nothing at its end
     gap : (u : ℕ) → at ≤ u → u < run.start → set u ≡ false
-    gap u l h = unless (set u) none_there where
+    gap u l h = false_from_ne_true (set u) none_there where
       none_there : set u ≡ true → ⊥
       none_there e =
           let end : end_of run ≤ units = first.is_long.maximal.within in
@@ -80,7 +77,7 @@ module _ (set : ℕ → Bool) (units : ℕ) (none : (u : ℕ) → units ≤ u �
   -- where no further run comes, these are all
   module _ (last : NoneFrom set units 1 at) where
     rest : (u : ℕ) → at ≤ u → u < units → set u ≡ false
-    rest u l h = unless (set u) (λ e. let t = found u l h e in last t.0 t.1)
+    rest u l h = false_from_ne_true (set u) (λ e. let t = found u l h e in last t.0 t.1)
 
     all_covered : (u : ℕ) → u < units → (at ≤ u) ⊎ (u < at) → covered runs u ≡ set u
     all_covered u h (inr low) = w.whole u low

@@ -1,9 +1,10 @@
 -- The words of the crates below and of this one's specs that the proofs of this crate share, so that each is named once.
 pub use Rattle.ms_core.specs.Asked.{Finds, in_any, IsSettleBefore}
-pub use Rattle.ms_core.specs.Kept.{Book, IsKept, origin_in, waiting_nodes, book_in}
-pub use Rattle.ms_core.specs.Mirrors.{Mirrors, IsBarred, by_vacant, by_given, by_gained, allocating_of, freeing_of, deferred_of, Settles, number_of, is_changed, tree_of}
+pub use Rattle.ms_core.specs.Kept.{Book, IsKept, HoldsTogether, IsNotedIn, IsRoomier, MovesCursor, state_in, origin_in, waiting_nodes, book_in}
+pub use Rattle.ms_core.specs.Mirrors.{Mirrors, IsBarred, by_vacant, by_given, by_gained, allocating_of, freeing_of, deferred_of, Settles, Adds, CanMove, Moves, Clears, Fills, number_of, is_changed, tree_of}
 pub use Rattle.ms_core.specs.State.{MsState, AreOfLanes, settled_of, collected_of, origin_of}
 pub use Rattle.ms_core.specs.Weights.{as_one_run}
+pub use Rattle.ms_core.specs.declared.metaslab.Metaslab.TheInside.{Inside}
 pub use Rattle.ms_core.specs.declared.tree.Change.{Change}
 pub use Rattle.ms_core.specs.declared.tree.Change.TheVariants.{Gained, Given}
 pub use Rattle.ms_core.specs.declared.tree.Tree.{Tree}
@@ -46,13 +47,13 @@ pub use Rattle.zms_units.proofs.Fits.{fit_within, fit_inside}
 pub use Rattle.zms_units.proofs.Maximal.{apart_maximal, ends_last}
 pub use Rattle.zms_units.proofs.RisingSegs.{rising_at, rising_front}
 pub use Rattle.zms_units.proofs.Rows.{around}
-pub use Rattle.zms_units.proofs.Bools.{le_or, same_not, or_false, or_cases, or_false_right, true_or_false, or_right, true_and, or_none, and_false}
+pub use Rattle.zms_units.proofs.Bools.{le_or, same_not, or_false, or_cases, true_or_false, or_right, true_and, or_none, and_false}
 pub use Rattle.zms_units.proofs.Covers.{covers_true, covers_high, covered-push, covers_yes, covers_low}
 pub use Rattle.zms_units.proofs.CursorPlaces.{cursor_below}
 pub use Rattle.zms_units.specs.Apart.{AreApartFrom}
 pub use Rattle.zms_units.specs.Cursors.{cursor_of}
 pub use Rattle.zms_units.specs.Runs.{units_in, begins_run, run_count, IsFit, NoneInRow, AreMaximalRuns, IsMaximalRun, has_before, IsLongFrom, IsFirstFrom, NoneFrom}
-pub use Rattle.zms_units.specs.Limits.{IsLane}
+pub use Rattle.zms_units.specs.Limits.{IsLane, CURSORS, MAX_UNITS}
 pub use Rattle.zms_units.specs.Segments.{covers, end_of, covered, Covers, AreSegs, AreRisingFrom}
 pub use Rattle.zms_units.specs.Weights.{is_in_bucket, IsHistogramOf}
 pub use Rattle.zms_units.specs.declared.histograms.Histogram.{Histogram}

@@ -1,21 +1,23 @@
 -- What a metaslab keeps of itself beside its journal, and how the two agree.
-use Rattle.std.specs.Prelude.{◌≡◌, ℕ, ◌+◌, ◌-◌, ◌/◌, ◌<◌, ◌≤◌, ◌≢◌, Bool, true, None, List, min, slice_index}
-use Rattle.zms_units.specs.Limits.{IsShift, MAX_UNITS}
+use Rattle.std.specs.Prelude.{◌≡◌, ℕ, ◌+◌, ◌-◌, ◌/◌, ◌<◌, ◌≤◌, ◌≢◌, ◌==◌, if◌then◌else◌, Bool, true, None, List, Vec, min, slice_index}
+use Rattle.zms_units.specs.Cursors.{cursor_of}
+use Rattle.zms_units.specs.Limits.{CURSORS, IsShift, MAX_UNITS}
 use Rattle.std.specs.List.{All}
 use Rattle.std.specs.Vec.{vec_len, vec_capacity}
 use Rattle.zms_units.specs.declared.segments.Seg.{Seg}
-use Rattle.zms_units.specs.Segments.{covered, AreSegs}
+use Rattle.zms_units.specs.Segments.{covered, end_of, AreSegs}
 use Rattle.zms_units.specs.Runs.{units_in}
-use Rattle.seg_trees.specs.Sets.{Sets, nodes_of, all_nodes}
+use Rattle.seg_trees.specs.Sets.{Sets, AllStay, nodes_of, all_nodes}
 use Rattle.ms_model.specs.Origin.{Origin}
 use Rattle.ms_model.specs.Units.{settled_group, collected_group, is_loaded, worker_at}
 use Rattle.ms_model.specs.Cursors.{cursor_at}
 use Rattle.ms_model.specs.Counts.{live_units, deferred_units}
 use Rattle.ms_model.specs.Legal.{IsLegal}
+use Rattle.ms_model.specs.declared.notes.Act.{Act}
 use Rattle.ms_model.specs.declared.notes.Act.TheVariants.{Unload}
 use Rattle.ms_model.specs.declared.notes.Noted.{Noted}
 use Rattle.ms_core.specs.Mirrors.{Mirrors}
-use Rattle.ms_core.specs.State.{MsState, AreOfLanes}
+use Rattle.ms_core.specs.State.{MsState, AreOfLanes, noted}
 use Rattle.ms_core.specs.declared.metaslab.Metaslab.TheInside.{Inside}
 
 -- how many nodes the trees have of what is given back and not vacant yet
@@ -69,7 +71,7 @@ pub record IsKept (sets : Sets) (m : Book) : Type 0 where
   pub order : m.settled ≤ m.collected
   pub loaded : m.loaded ≡ is_loaded m.notes
   pub mirrors : Mirrors (origin_in m) m.notes sets
-  pub cursors : m.loaded ≡ true → (number : ℕ) → number < 18 → slice_index m.cursors number ≡ cursor_at m.notes number
+  pub cursors : m.loaded ≡ true → (number : ℕ) → number < CURSORS → slice_index m.cursors number ≡ cursor_at m.notes number
   pub held : m.held ≡ units_in (covered m.base) m.units
   pub live : m.live ≡ live_units (origin_in m) m.notes
   pub deferred : m.deferred ≡ deferred_units (origin_in m) m.notes
@@ -79,3 +81,21 @@ pub record HoldsTogether {R : Type 0} (set : R → Sets) (spare : R → ℕ) (m 
   pub kept : IsKept (set m.trees) (book_in m)
   pub waiting : waiting_nodes (set m.trees) ≤ spare m.trees
   pub room : vec_len m.notes + m.collected.0 ≤ vec_capacity m.notes + m.settled.0
+
+-- one note more, in the memory that is there
+pub record IsNotedIn {Z : Type 0} (old new : Vec Noted Z) (lane : ℕ) (act : Act) : Type 0 where
+  pub items : new.items ≡ noted old.items lane act
+  pub len : vec_len new ≡ vec_len old + 1
+  pub capacity : vec_capacity new ≡ vec_capacity old
+
+-- the same notes and trees, with no less room
+pub record IsRoomier {Z : Type 0} (old new : Vec Noted Z) (sets new_sets : Sets) (spare new_spare : ℕ) : Type 0 where
+  pub items : new.items ≡ old.items
+  pub len : vec_len new ≡ vec_len old
+  pub capacity : vec_capacity old ≤ vec_capacity new
+  pub nodes : spare ≤ new_spare
+  pub stay : AllStay sets new_sets
+
+-- the cursor of a segment's count is at the segment's end, and the others are where they were
+abbrev pub MovesCursor : List ℕ → List ℕ → Seg → Type 0
+MovesCursor cursors new seg = (number : ℕ) → number < CURSORS → slice_index new number ≡ (if cursor_of seg.count == number then end_of seg else slice_index cursors number)

@@ -4,3 +4,5 @@ pub mod Mirrors
 pub mod Asked
 pub mod Weights
 pub mod Kept
+pub mod Standing
+pub mod Differences

@@ -1,6 +1,8 @@
 -- How the trees of a metaslab say what its journal says.
-use Rattle.std.specs.Prelude.{◌≡◌, ℕ, ◌+◌, ◌-◌, ◌%◌, ◌<◌, ◌≤◌, ◌||◌, Bool, true, false, nat_le, if◌then◌else◌, Option, Some, None, List}
-use Rattle.seg_trees.specs.Sets.{Sets}
+use Rattle.std.specs.Prelude.{◌≡◌, ℕ, ◌+◌, ◌-◌, ◌%◌, ◌<◌, ◌≤◌, ◌≢◌, ◌||◌, ◌&&◌, not, Bool, true, false, nat_le, if◌then◌else◌, Option, Some, None, List}
+use Rattle.zms_units.specs.declared.segments.Seg.{Seg}
+use Rattle.zms_units.specs.Segments.{covers, covered}
+use Rattle.seg_trees.specs.Sets.{Sets, HoldsAll, HoldsNone, IsSegment, OthersStay, OthersStayBut}
 use Rattle.ms_model.specs.Origin.{Origin}
 use Rattle.ms_model.specs.Units.{settled_group, collected_group, is_loaded}
 use Rattle.ms_model.specs.Spaces.{is_vacant}
@@ -48,6 +50,35 @@ pub record Mirrors (o : Origin) (h : List Noted) (sets : Sets) : Type 0 where
   pub gained : (t u : ℕ) → collected_group o h < t → t ≤ collected_group o h + 4 → sets (allocating_of t) u ≡ is_gained t h u
   pub given : (t u : ℕ) → settled_group o h < t → t ≤ settled_group o h + 4 → sets (freeing_of t) u ≡ is_given t h u
   pub deferred : (t u : ℕ) → settled_group o h < t → t ≤ settled_group o h + 2 → sets (deferred_of t) u ≡ is_given (t - 2) h u
+
+-- a segment goes into a tree, and no other tree changes
+pub record Adds (sets new : Sets) (tree : ℕ) (seg : Seg) : Type 0 where
+  pub added : (u : ℕ) → new tree u ≡ (covers seg u || sets tree u)
+  pub others : OthersStay sets new tree
+
+-- a segment goes from one tree into another, and no other tree changes
+pub record Moves (sets new : Sets) (from into : ℕ) (seg : Seg) : Type 0 where
+  pub left : (u : ℕ) → new from u ≡ (not (covers seg u) && sets from u)
+  pub added : (u : ℕ) → new into u ≡ (covers seg u || sets into u)
+  pub others : OthersStayBut sets new from into
+
+-- a segment that may go from one tree into another: the one has all of it, and the other none
+pub record CanMove (sets : Sets) (from into : ℕ) (seg : Seg) : Type 0 where
+  pub differ : from ≢ into
+  pub segment : IsSegment seg
+  pub covered : HoldsAll (sets from) seg
+  pub apart : HoldsNone (sets into) seg
+
+-- a tree is empty, and no other tree changes
+pub record Clears (sets new : Sets) (tree : ℕ) : Type 0 where
+  pub empty : (u : ℕ) → new tree u ≡ false
+  pub others : OthersStay sets new tree
+
+-- the first tree has what segments leave of the units, and no other tree changes
+pub record Fills (sets new : Sets) (units : ℕ) (held : List Seg) : Type 0 where
+  pub gaps : (u : ℕ) → u < units → new 0 u ≡ not (covered held u)
+  pub above : (u : ℕ) → units ≤ u → new 0 u ≡ false
+  pub others : OthersStay sets new 0
 
 -- the trees from before a group settles to after it: what is deferred until then is vacant, and what it gave back is deferred
 pub record Settles (loaded : Bool) (sets new : Sets) (group : ℕ) : Type 0 where

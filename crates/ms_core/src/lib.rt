@@ -22,6 +22,8 @@
 mod buffer;
 mod faults;
 mod free_space;
+mod holding;
+mod kept;
 mod looking;
 mod metaslab;
 mod stepping;
@@ -30,4 +32,5 @@ mod walking;
 
 pub use buffer::RunBuf;
 pub use faults::{Counts, MsFault};
+pub use kept::Standing;
 pub use metaslab::Metaslab;

@@ -15,11 +15,13 @@ ghost use Rattle.ms_model.specs.Laws.{IsFreeOfAll};
 ghost use Rattle.ms_model.specs.declared.notes.Act.TheVariants.{Grant, Free, Unalloc, Miss, Collect, Settle, Load};
 ghost use Rattle.ms_core.specs.State.{origin_of, settled_of, collected_of, noted, AreOfLanes, StaysButNotes, StaysButRoom, HasMore};
 ghost use Rattle.ms_core.specs.Buffers.{run_room, changed_runs};
-ghost use Rattle.ms_core.specs.Kept.{waiting_nodes};
+ghost use Rattle.ms_core.specs.Differences.{DiffersFirst};
+ghost use Rattle.ms_core.specs.Kept.{waiting_nodes, IsNotedIn, IsRoomier, MovesCursor};
 ghost use Rattle.ms_core.specs.Mirrors.{Settles, deferred_of, is_changed, tree_of};
 ghost use Rattle.ms_core.specs.Weights.{IsWeightOfSet, as_one_run};
 
 use crate::free_space::FreeSpace;
+use crate::holding::differs_at;
 use crate::looking::{first_foreign, lower, lowest_in};
 use crate::tree::{Change, Tree};
 use crate::walking::{add_gaps, one_run, push_runs};
@@ -76,9 +78,7 @@ impl<R: SegTrees> Model for Metaslab<R> {
 /// Adds a lane's act to a journal that has room for it.
 fn push_note(notes: &mut Vec<Noted>, lane: u8, act: Act)
     requires { vec_len notes.old < vec_capacity notes.old }
-    ensures items { notes.new.items ≡ noted notes.old.items lane act }
-    ensures len { vec_len notes.new ≡ vec_len notes.old + 1 }
-    ensures capacity { vec_capacity notes.new ≡ vec_capacity notes.old }
+    ensures { IsNotedIn notes.old notes.new lane act }
 {
     notes.push_reserved(Noted { lane, act });
 }
@@ -87,14 +87,15 @@ fn push_note(notes: &mut Vec<Noted>, lane: u8, act: Act)
 fn move_cursor(cursors: &mut [u32; CURSORS], seg: Seg)
     requires count { (1 ≤ seg.count) × (seg.count ≤ MAX_UNITS) }
     requires within { end_of seg ≤ MAX_UNITS }
-    ensures { (number : ℕ) → number < 18 → slice_index cursors.new number ≡ (if cursor_of seg.count == number then end_of seg else slice_index cursors.old number) }
+    ensures { MovesCursor cursors.old cursors.new seg }
 {
     cursors[cursor_place(seg.count)] = seg.start + seg.count;
 }
 
 /// How many nodes the trees have of what is given back and not vacant yet.
 fn waiting_nodes<R: SegTrees>(trees: &R) -> u32
-    ensures { result ≡ waiting_nodes (R.set trees.now) }
+    ensures nodes { result ≡ waiting_nodes (R.set trees.now) }
+    ensures few { result ≤ 6 * MAX_UNITS }
 {
     stepping::nodes(trees, Tree::Freeing(Group(0)))
         + stepping::nodes(trees, Tree::Freeing(Group(1)))
@@ -112,12 +113,8 @@ fn reserve<R: SegTrees>(
     nodes: u32,
 ) -> Result<(), AllocError>
     requires { nodes ≤ MAX_UNITS + 2 }
-    ensures items { notes.new.items ≡ notes.old.items }
-    ensures len { vec_len notes.new ≡ vec_len notes.old }
-    ensures capacity { vec_capacity notes.old ≤ vec_capacity notes.new }
     ensures enough { OnOk result ((vec_len notes.new + further ≤ vec_capacity notes.new) × (waiting_nodes (R.set trees.new) + nodes ≤ R.spare trees.new)) }
-    ensures spare { R.spare trees.old ≤ R.spare trees.new }
-    ensures stay { AllStay (R.set trees.old) (R.set trees.new) }
+    ensures roomier { IsRoomier notes.old notes.new (R.set trees.old) (R.set trees.new) (R.spare trees.old) (R.spare trees.new) }
 {
     notes.reserve(further)?;
     let waiting = waiting_nodes(trees);
@@ -202,7 +199,7 @@ impl<R: SegTrees> Metaslab<R> {
     fn admit(&self, group: Group) -> Result<(), MsFault>
         ensures late { group.0 ≤ collected_of self.now → result ≡ Err (MsFault.Late group (record { 0 = collected_of self.now })) }
         ensures not_loaded { collected_of self.now < group.0 → is_loaded self.now.notes ≡ false → result ≡ Err MsFault.NotLoaded }
-        ensures refused { OnErr result (collected_of self.now < group.0 → is_loaded self.now.notes ≡ true → ⊥) }
+        ensures taken { collected_of self.now < group.0 → is_loaded self.now.notes ≡ true → IsOk result }
         ensures above { OnOk result (collected_of self.now < group.0) }
         ensures loaded { OnOk result (is_loaded self.now.notes ≡ true) }
     {
@@ -572,6 +569,23 @@ impl<R: SegTrees> Metaslab<R> {
         Ok(true)
     }
 
+    /// The lowest unit at which these segments and what the settled groups hold differ, by the base and the journal: what
+    /// `load` needs of them is that there is none. Costs the units, and those of each segment of the journal.
+    pub fn differs(&self, held: &[Seg]) -> Result<Option<u32>, AllocError>
+        requires { AreSegs self.now.units held.now }
+        ensures { IfOk result (DiffersFirst (covered held.now) (holds (origin_of self.now) self.now.notes (settled_of self.now)) self.now.units) }
+    {
+        let alloc = *self.notes.allocator();
+        differs_at(
+            alloc,
+            &self.base,
+            &self.notes,
+            self.settled,
+            self.units,
+            held,
+        )
+    }
+
     /// How many units are vacant.
     fn vacant(&self) -> u32
         ensures { result ≡ vacant_units (origin_of self.now) self.now.notes }
@@ -613,10 +627,12 @@ impl<R: SegTrees> Metaslab<R> {
         weight_of(&self.vacant_runs())
     }
 
-    /// The group that was settled last, or the opened one. Each note so far is of a lane from 1 to 16.
+    /// The group that was settled last, or the opened one. The journal so far is legal, and each note of it is of a lane
+    /// from 1 to 16.
     pub fn settled(&self) -> Group
         ensures group { result.0 ≡ settled_of self.now }
         ensures lanes { AreOfLanes self.now.notes }
+        ensures legal { IsLegal (origin_of self.now) self.now.notes }
     {
         self.settled
     }

@@ -5,7 +5,7 @@ ghost use Rattle.zms_units.specs.Segments.{covers};
 ghost use Rattle.zms_units.specs.Runs.{IsFirstFrom, NoneFrom, IsBest};
 ghost use Rattle.zms_units.specs.Weights.{IsHistogramOf};
 ghost use Rattle.seg_trees.specs.Sets.{HoldsAll, HoldsNone, IsLowest, IsSegment, OthersStay, OthersStayBut, AreDisjoint, TakesNone, nodes_of, size_of};
-ghost use Rattle.ms_core.specs.Mirrors.{number_of};
+ghost use Rattle.ms_core.specs.Mirrors.{Adds, CanMove, Clears, Moves, number_of};
 
 use crate::tree::Tree;
 use seg_trees::{SegTrees, Steps};
@@ -18,8 +18,7 @@ pub(crate) fn add<R: SegTrees>(trees: &mut R, tree: Tree, seg: Seg)
     requires segment { IsSegment seg }
     requires apart { HoldsNone (R.set trees.old (number_of tree)) seg }
     requires spare { 1 ≤ R.spare trees.old }
-    ensures added { (u : ℕ) → R.set trees.new (number_of tree) u ≡ (covers seg u || R.set trees.old (number_of tree) u) }
-    ensures others { OthersStay (R.set trees.old) (R.set trees.new) (number_of tree) }
+    ensures adds { Adds (R.set trees.old) (R.set trees.new) (number_of tree) seg }
     ensures spare { R.spare trees.old ≤ R.spare trees.new + 1 }
     ensures memory { TakesNone (R.spare trees.old) (R.set trees.old) (R.spare trees.new) (R.set trees.new) }
 {
@@ -32,8 +31,7 @@ fn add_counted<L: Ledger, R: SegTrees>(blank: Blank, trees: &mut R, tree: Tree, 
     requires segment { IsSegment seg }
     requires apart { HoldsNone (R.set trees.old (number_of tree)) seg }
     requires spare { 1 ≤ R.spare trees.old }
-    ensures added { (u : ℕ) → R.set trees.new (number_of tree) u ≡ (covers seg u || R.set trees.old (number_of tree) u) }
-    ensures others { OthersStay (R.set trees.old) (R.set trees.new) (number_of tree) }
+    ensures adds { Adds (R.set trees.old) (R.set trees.new) (number_of tree) seg }
     ensures spare { R.spare trees.old ≤ R.spare trees.new + 1 }
     ensures memory { TakesNone (R.spare trees.old) (R.set trees.old) (R.spare trees.new) (R.set trees.new) }
 {
@@ -71,14 +69,9 @@ fn remove_counted<L: Ledger, R: SegTrees>(blank: Blank, trees: &mut R, tree: Tre
 
 /// Moves a segment from a tree that covers it to one that holds none of it.
 pub(crate) fn move_seg<R: SegTrees>(trees: &mut R, from: Tree, into: Tree, seg: Seg)
-    requires differ { number_of from ≢ number_of into }
-    requires segment { IsSegment seg }
-    requires covered { HoldsAll (R.set trees.old (number_of from)) seg }
-    requires apart { HoldsNone (R.set trees.old (number_of into)) seg }
+    requires can { CanMove (R.set trees.old) (number_of from) (number_of into) seg }
     requires spare { 2 ≤ R.spare trees.old }
-    ensures from { (u : ℕ) → R.set trees.new (number_of from) u ≡ (not (covers seg u) && R.set trees.old (number_of from) u) }
-    ensures into { (u : ℕ) → R.set trees.new (number_of into) u ≡ (covers seg u || R.set trees.old (number_of into) u) }
-    ensures others { OthersStayBut (R.set trees.old) (R.set trees.new) (number_of from) (number_of into) }
+    ensures moves { Moves (R.set trees.old) (R.set trees.new) (number_of from) (number_of into) seg }
     ensures spare { R.spare trees.old ≤ R.spare trees.new + 2 }
     ensures memory { TakesNone (R.spare trees.old) (R.set trees.old) (R.spare trees.new) (R.set trees.new) }
 {
@@ -173,8 +166,7 @@ pub(crate) fn vacate<R: SegTrees>(trees: &mut R, from: Tree, into: Tree)
 
 /// Empties a tree.
 pub(crate) fn clear<R: SegTrees>(trees: &mut R, tree: Tree)
-    ensures empty { (u : ℕ) → R.set trees.new (number_of tree) u ≡ false }
-    ensures others { OthersStay (R.set trees.old) (R.set trees.new) (number_of tree) }
+    ensures clears { Clears (R.set trees.old) (R.set trees.new) (number_of tree) }
     ensures spare { R.spare trees.old ≤ R.spare trees.new }
     ensures memory { TakesNone (R.spare trees.old) (R.set trees.old) (R.spare trees.new) (R.set trees.new) }
 {
@@ -190,7 +182,8 @@ pub(crate) fn units<R: SegTrees>(trees: &R, tree: Tree) -> u32
 
 /// How many runs a tree has.
 pub(crate) fn nodes<R: SegTrees>(trees: &R, tree: Tree) -> u32
-    ensures { result ≡ nodes_of (R.set trees.now (number_of tree)) }
+    ensures nodes { result ≡ nodes_of (R.set trees.now (number_of tree)) }
+    ensures few { result ≤ MAX_UNITS }
 {
     trees.nodes(tree.number())
 }

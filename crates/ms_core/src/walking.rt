@@ -6,7 +6,7 @@ ghost use Rattle.zms_units.specs.Limits.{IsShift};
 ghost use Rattle.zms_units.specs.Runs.{AreMaximalRuns};
 ghost use Rattle.zms_units.specs.Weights.{IsHistogramOf};
 ghost use Rattle.seg_trees.specs.Sets.{nodes_of, OthersStay, TakesNone};
-ghost use Rattle.ms_core.specs.Mirrors.{number_of};
+ghost use Rattle.ms_core.specs.Mirrors.{Fills, number_of};
 
 use crate::stepping;
 use crate::tree::Tree;
@@ -50,9 +50,7 @@ pub(crate) fn add_gaps<R: SegTrees>(trees: &mut R, held: &[Seg], units: u32)
     requires units { (0 < units) × (units ≤ MAX_UNITS) }
     requires empty { (u : ℕ) → R.set trees.old 0 u ≡ false }
     requires spare { length held.now + 1 ≤ R.spare trees.old }
-    ensures gaps { (u : ℕ) → u < units → R.set trees.new 0 u ≡ not (covered held.now u) }
-    ensures above { (u : ℕ) → units ≤ u → R.set trees.new 0 u ≡ false }
-    ensures others { OthersStay (R.set trees.old) (R.set trees.new) 0 }
+    ensures fills { Fills (R.set trees.old) (R.set trees.new) units held.now }
     ensures spare { R.spare trees.old ≤ R.spare trees.new + (length held.now + 1) }
     ensures memory { TakesNone (R.spare trees.old) (R.set trees.old) (R.spare trees.new) (R.set trees.new) }
 {

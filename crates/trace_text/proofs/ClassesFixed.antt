@@ -16,13 +16,13 @@ use Rattle.ms_model.specs.declared.notes.Kind.{Kind}
 use Rattle.ms_model.specs.declared.notes.Kind.TheVariants.{Primary, Secondary}
 use Rattle.ms_model.specs.declared.notes.Start.{Start}
 use Rattle.ms_model.specs.declared.notes.Start.TheVariants.{Active, Top, After}
-use Rattle.trace_text.specs.Held.{Held, IdHeld, StartHeld, GotHeld, ClassNoteHeld, LaneClassNoteHeld, ClassHeld, KeeperNoteHeld, LaneKeeperNoteHeld}
+use Rattle.trace_text.specs.Held.{Held, IdHeld, StartHeld, GotHeld, ClassNoteHeld, ClassHeld, KeeperNoteHeld, LaneKeeperNoteHeld}
 use Rattle.trace_text.specs.Numbers.{weight_text, numbered}
 use Rattle.zms_units.specs.Classes.{class_word}
 use Rattle.trace_text.specs.Traces.{id_text, kind_word, start_text, got_text, class_note_text, class_note_line, class_text, keeper_note_text, keeper_note_line, keeper_text}
-use Rattle.trace_text.proofs.Reading.{first, key, number_fixed, number_then, number_end, first_number, numbered_fixed}
+use Rattle.trace_text.proofs.Reading.{first, key, number_fixed, number_then, number_end, first_number}
 use Rattle.trace_text.proofs.Weights.{weight_fixed}
-use Rattle.trace_text.proofs.NotesFixed.{line_begins, line_fixed, pair_fixed, group_same}
+use Rattle.trace_text.proofs.NotesFixed.{lines_fixed, pair_fixed, group_same}
 
 -- weights and metaslabs within a line
 
@@ -154,12 +154,6 @@ class_note_fixed (Weigh a w) (Weigh b v) r s p q e =
     ((λ z. Weigh (i.0 z) (i.1 z)), i.2)
 class_note_fixed _ _ r s p q e = let f = ap key e in absurd (omega arith)
 
-class_note_line_fixed : (k : ℕ) (x y : ℕ × ClassNote) (r s : List ℕ) → LaneClassNoteHeld x → LaneClassNoteHeld y → class_note_line k x ++ r ≡ class_note_line k y ++ s → (x ≡ y) × (r ≡ s)
-class_note_line_fixed k x y r s p q e =
-    let i = line_fixed k x.0 y.0 (class_note_text x.1) (class_note_text y.1) r s p.0 q.0 e in
-    let j = class_note_fixed x.1 y.1 r s p.1 q.1 i.1 in
-    ((λ t. (i.0 t, j.0 t)), j.1)
-
 class_word_fixed : (a b : Class) (r s : List ℕ) → class_word a ++ (10 ∷ r) ≡ class_word b ++ (10 ∷ s) → (a ≡ b) × (r ≡ s)
 class_word_fixed Normal Normal r s e = (refl, append_cancel_left (codes "normal\n") r s e)
 class_word_fixed Log Log r s e = (refl, append_cancel_left (codes "log\n") r s e)
@@ -176,9 +170,7 @@ class_fixed x y r s p q past end e =
     let yn = numbered class_note_line 1 y.notes in
     let f = append_cancel_left (codes "class ") (((class_word x.class ++ (10 ∷ [])) ++ xn) ++ r) (((class_word y.class ++ (10 ∷ [])) ++ yn) ++ s) e in
     let i = class_word_fixed x.class y.class (xn ++ r) (yn ++ s) (sym (class_rest (class_word x.class) xn r) ∙ (f ∙ class_rest (class_word y.class) yn s)) in
-    let n = numbered_fixed class_note_line LaneClassNoteHeld (λ c. c < 97) (λ _. Unit {0})
-    (λ k z t. (line_begins k z.0 (class_note_text z.1) t, tt)) (λ k z w t u a b _ _ g. class_note_line_fixed k z w t u a b g)
-    1 x.notes y.notes r s p q (λ low. absurd (omega arith)) (λ low. absurd (omega arith)) tt tt i.1 in
+    let n = lines_fixed (λ (z : ℕ × ClassNote). z.0) (λ (z : ℕ × ClassNote). z.1) class_note_text ClassNoteHeld (λ a b l m. λ t. (l t, m t)) class_note_fixed x.notes y.notes r s p q past end i.1 in
     ((λ t. record { class = i.0 t; notes = n.0 t }), n.1)
 
 -- a note of the keeper, by its word
@@ -195,16 +187,8 @@ keeper_note_fixed (Damaged a) (Damaged b) r s p q e =
     (ap Damaged i.0, i.1)
 keeper_note_fixed _ _ r s p q e = let f = ap key e in absurd (omega arith)
 
-keeper_note_line_fixed : (k : ℕ) (x y : ℕ × KeeperNote) (r s : List ℕ) → LaneKeeperNoteHeld x → LaneKeeperNoteHeld y → keeper_note_line k x ++ r ≡ keeper_note_line k y ++ s → (x ≡ y) × (r ≡ s)
-keeper_note_line_fixed k x y r s p q e =
-    let i = line_fixed k x.0 y.0 (keeper_note_text x.1) (keeper_note_text y.1) r s p.0 q.0 e in
-    let j = keeper_note_fixed x.1 y.1 r s p.1 q.1 i.1 in
-    ((λ t. (i.0 t, j.0 t)), j.1)
-
 pub keeper_fixed : (xs ys : List (ℕ × KeeperNote)) (r s : List ℕ) → All LaneKeeperNoteHeld xs → All LaneKeeperNoteHeld ys
     → 97 ≤ first r → 97 ≤ first s → keeper_text xs ++ r ≡ keeper_text ys ++ s → (xs ≡ ys) × (r ≡ s)
 keeper_fixed xs ys r s p q past end e =
-    numbered_fixed keeper_note_line LaneKeeperNoteHeld (λ c. c < 97) (λ _. Unit {0})
-    (λ k z t. (line_begins k z.0 (keeper_note_text z.1) t, tt)) (λ k z w t u a b _ _ g. keeper_note_line_fixed k z w t u a b g)
-    1 xs ys r s p q (λ low. absurd (omega arith)) (λ low. absurd (omega arith)) tt tt
+    lines_fixed (λ (z : ℕ × KeeperNote). z.0) (λ (z : ℕ × KeeperNote). z.1) keeper_note_text KeeperNoteHeld (λ a b l m. λ t. (l t, m t)) keeper_note_fixed xs ys r s p q past end
     (append_cancel_left (codes "keeper\n") (numbered keeper_note_line 1 xs ++ r) (numbered keeper_note_line 1 ys ++ s) e)

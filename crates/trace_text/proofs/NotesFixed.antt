@@ -11,7 +11,7 @@ use Rattle.ms_model.specs.declared.notes.Act.TheVariants.{Grant, Free, Unalloc, 
 use Rattle.ms_model.specs.declared.notes.Noted.{Noted}
 use Rattle.ms_model.specs.declared.notes.WorkKind.{WorkKind}
 use Rattle.ms_model.specs.declared.notes.WorkKind.TheVariants.{Init, Trim}
-use Rattle.trace_text.specs.Held.{Held, SegHeld, WorkHeld, ActHeld, NoteHeld, MetaslabHeld}
+use Rattle.trace_text.specs.Held.{Held, SegHeld, WorkHeld, ActHeld, MetaslabHeld}
 use Rattle.trace_text.specs.Numbers.{numbered}
 use Rattle.trace_text.specs.Traces.{note_line, seg_text, work_word, work_text, act_text, act_line, metaslab_text}
 use Rattle.trace_text.proofs.Reading.{first, key, number_fixed, number_then, number_end, first_number, numbered_fixed}
@@ -21,14 +21,35 @@ use Rattle.trace_text.proofs.Reading.{first, key, number_fixed, number_then, num
 line_rest : (p l a r : List ℕ) → (p ++ (32 ∷ (l ++ (32 ∷ (a ++ (10 ∷ [])))))) ++ r ≡ p ++ (32 ∷ (l ++ (32 ∷ (a ++ (10 ∷ r)))))
 line_rest p l a r = simp append_assoc
 
-pub line_begins : (k l : ℕ) (a r : List ℕ) → first (note_line k l a ++ r) < 97
+line_begins : (k l : ℕ) (a r : List ℕ) → first (note_line k l a ++ r) < 97
 line_begins k l a r = subst (λ (xs : List ℕ). first xs < 97) (sym (line_rest (decimal k) (decimal l) a r)) (first_number k (decimal l ++ (32 ∷ (a ++ (10 ∷ r)))))
 
-pub line_fixed : (k l m : ℕ) (a b r s : List ℕ) → Held l → Held m → note_line k l a ++ r ≡ note_line k m b ++ s → (l ≡ m) × (a ++ (10 ∷ r) ≡ b ++ (10 ∷ s))
+line_fixed : (k l m : ℕ) (a b r s : List ℕ) → Held l → Held m → note_line k l a ++ r ≡ note_line k m b ++ s → (l ≡ m) × (a ++ (10 ∷ r) ≡ b ++ (10 ∷ s))
 line_fixed k l m a b r s low high e =
     let f = sym (line_rest (decimal k) (decimal l) a r) ∙ (e ∙ line_rest (decimal k) (decimal m) b s) in
     let t = append_cancel_left (decimal k) (32 ∷ (decimal l ++ (32 ∷ (a ++ (10 ∷ r))))) (32 ∷ (decimal m ++ (32 ∷ (b ++ (10 ∷ s))))) f in
     number_then l m (a ++ (10 ∷ r)) (b ++ (10 ∷ s)) low high (append_cancel_left (32 ∷ []) (decimal l ++ (32 ∷ (a ++ (10 ∷ r)))) (decimal m ++ (32 ∷ (b ++ (10 ∷ s)))) t)
+
+-- lines of notes, each with its lane, where a note's text fixes it
+
+module _ {X N : Type 0} (lane : X → ℕ) (note : X → N) (text : N → List ℕ) (Fine : N → Type 0) (join : (x y : X) → lane x ≡ lane y → note x ≡ note y → x ≡ y)
+    (fixed : (a b : N) (r s : List ℕ) → Fine a → Fine b → text a ++ (10 ∷ r) ≡ text b ++ (10 ∷ s) → (a ≡ b) × (r ≡ s)) where
+  abbrev Whole : X → Type 0
+  Whole x = Held (lane x) × Fine (note x)
+
+  abbrev line : ℕ → X → List ℕ
+  line k x = note_line k (lane x) (text (note x))
+
+  one_fixed : (k : ℕ) (x y : X) (r s : List ℕ) → Whole x → Whole y → line k x ++ r ≡ line k y ++ s → (x ≡ y) × (r ≡ s)
+  one_fixed k x y r s p q e =
+      let i = line_fixed k (lane x) (lane y) (text (note x)) (text (note y)) r s p.0 q.0 e in
+      let j = fixed (note x) (note y) r s p.1 q.1 i.1 in
+      (join x y i.0 j.0, j.1)
+
+  pub lines_fixed : (xs ys : List X) (r s : List ℕ) → All Whole xs → All Whole ys → 97 ≤ first r → 97 ≤ first s → numbered line 1 xs ++ r ≡ numbered line 1 ys ++ s → (xs ≡ ys) × (r ≡ s)
+  lines_fixed xs ys r s p q past end e =
+      numbered_fixed line Whole (λ c. c < 97) (λ _. Unit {0}) (λ k x t. (line_begins k (lane x) (text (note x)) t, tt)) (λ k x y t u a b _ _ f. one_fixed k x y t u a b f)
+      1 xs ys r s p q (λ low. absurd (omega arith)) (λ low. absurd (omega arith)) tt tt e
 
 -- two numbers at the end of a line
 
@@ -107,18 +128,6 @@ act_fixed (Enable m) (Enable n) r s p q e =
     let i = number_end m n r s p q (append_cancel_left (codes "enable ") (decimal m ++ (10 ∷ r)) (decimal n ++ (10 ∷ s)) e) in (cc (i.0), i.1)
 act_fixed _ _ r s p q e = let f = ap key e in absurd (omega arith)
 
-act_line_fixed : (k : ℕ) (x y : Noted) (r s : List ℕ) → NoteHeld x → NoteHeld y → act_line k x ++ r ≡ act_line k y ++ s → (x ≡ y) × (r ≡ s)
-act_line_fixed k x y r s p q e =
-    let i = line_fixed k x.lane y.lane (act_text x.act) (act_text y.act) r s p.0 q.0 e in
-    let j = act_fixed x.act y.act r s p.1 q.1 i.1 in
-    ((λ t. record { lane = i.0 t; act = j.0 t }), j.1)
-
-acts_fixed : (xs ys : List Noted) (r s : List ℕ) → All NoteHeld xs → All NoteHeld ys → 97 ≤ first r → 97 ≤ first s
-    → numbered act_line 1 xs ++ r ≡ numbered act_line 1 ys ++ s → (xs ≡ ys) × (r ≡ s)
-acts_fixed xs ys r s p q past end e =
-    numbered_fixed act_line NoteHeld (λ c. c < 97) (λ _. Unit {0}) (λ k x t. (line_begins k x.lane (act_text x.act) t, tt)) (λ k x y t u a b _ _ f. act_line_fixed k x y t u a b f)
-    1 xs ys r s p q (λ low. absurd (omega arith)) (λ low. absurd (omega arith)) tt tt e
-
 -- a metaslab's line and notes
 
 counts_rest : (us sh he u a h t : List ℕ) → (us ++ (u ++ (sh ++ (a ++ (he ++ (h ++ (10 ∷ []))))))) ++ t ≡ us ++ (u ++ (sh ++ (a ++ (he ++ (h ++ (10 ∷ t))))))
@@ -153,5 +162,5 @@ metaslab_fixed x y r s p q past end e =
     let u = number_fixed x.units y.units (codes " shift " ++ xa) (codes " shift " ++ ya) p.units q.units (omega arith) (omega arith) (append_cancel_left (codes " units ") xu yu i.1) in
     let a = number_fixed x.ashift y.ashift (codes " held " ++ xh) (codes " held " ++ yh) p.ashift q.ashift (omega arith) (omega arith) (append_cancel_left (codes " shift ") xa ya u.1) in
     let h = number_end x.held y.held xn yn p.held q.held (append_cancel_left (codes " held ") xh yh a.1) in
-    let n = acts_fixed x.notes y.notes r s p.notes q.notes past end h.1 in
+    let n = lines_fixed (λ (x : Noted). x.lane) (λ (x : Noted). x.act) act_text ActHeld (λ a b l n. λ t. record { lane = l t; act = n t }) act_fixed x.notes y.notes r s p.notes q.notes past end h.1 in
     ((λ t. record { id = record { vdev = v.0 t; index = i.0 t }; units = u.0 t; ashift = a.0 t; held = h.0 t; notes = n.0 t }), n.1)

@@ -19,6 +19,10 @@ const ROUNDS: u32 = 600;
 
 const A_ROUND: u32 = 100;
 
+// How many of its entries lie between two for which a lane looks through all of them while it has the value: the others
+// wait meanwhile, and sleep.
+const LOOK: u32 = 500;
+
 #[derive(Clone, Copy)]
 struct Entry {
     lane: u8,
@@ -45,7 +49,8 @@ impl Kept for Ledger {
     ghost stands = { λ _ _. Unit {0} };
 }
 
-/// One turn of a lane. False where there is no memory for the entry.
+/// One turn of a lane. False where there is no memory for the entry, or where the lane looks through its entries and they
+/// aren't numbered from 0 up to this one.
 fn add_one<R: Wait>(
     rt: &R,
     turn: &Turn<Ledger>,
@@ -57,11 +62,12 @@ fn add_one<R: Wait>(
     ensures { Ready (λ e. e.lane) lane turn.now pass.new }
 {
     let mut held = turn.take(rt, pass);
+    let whole = number % LOOK > 0 || is_whole(held.value().entries.as_slice(), lane, number);
     let entry = Entry { lane, number };
     match held.value_mut().entries.push(entry) {
         Ok(()) => {
             turn.give(held, pass, Some(entry));
-            true
+            whole
         }
         Err(_) => {
             turn.give(held, pass, None);

@@ -179,9 +179,10 @@ impl Gate {
         self.open
     }
 
-    /// The group that was settled last. Each closing so far was of a lane from 1 to 16.
+    /// The group that was settled last. The journal so far is legal, and each closing of it of a lane from 1 to 16.
     pub fn synced(&self) -> Group
         ensures group { result.0 ≡ synced_of self.now }
+        ensures legal { IsGateLegal self.now.opened self.now.notes }
         ensures lanes { All IsByLane self.now.notes }
         ensures near { (result.0 < open_of self.now) × (open_of self.now ≤ result.0 + 3) }
     {

@@ -23,10 +23,10 @@ add-requires-clause-segment g c = record { some = c.requires.units.0; within = o
 
 pub loop-seg-init : goal.loop-seg-init
 loop-seg-init g c = record {
-  gaps = λ u. c.add.ensures.added u ∙ (ap (λ b. covers (record { start = 0; count = c.args.units }) u || b) (c.requires.empty u) ∙ (or_false _ ∙ sym (and_true _)));
+  gaps = λ u. c.add.ensures.adds.added u ∙ (ap (λ b. covers (record { start = 0; count = c.args.units }) u || b) (c.requires.empty u) ∙ (or_false _ ∙ sym (and_true _)));
   spare = omega (arith, c.add.ensures.spare);
   memory = c.add.ensures.memory;
-  others = c.add.ensures.others;
+  others = c.add.ensures.adds.others;
 }
 
 pub remove-requires-clause-segment : goal.remove-requires-clause-segment
@@ -58,10 +58,11 @@ loop-seg-preserved g c =
       others = λ tree u d. c.remove.ensures.others tree u d ∙ so_far.others tree u d;
     }
 
-pub returns-clause-gaps : goal.returns-clause-gaps
-returns-clause-gaps g c = λ u l.
-    c.loop-seg.invariant.gaps u
-    ∙ rw (covers_yes (record { start = 0; count = c.args.units }) u (omega arith) (omega arith), take_all c.loop-seg.seg-index c.args.held.now c.loop-seg-test.false) refl
-
-pub returns-clause-above : goal.returns-clause-above
-returns-clause-above g c = λ u l. c.loop-seg.invariant.gaps u ∙ rw (covers_high (record { start = 0; count = c.args.units }) u (omega arith)) refl
+pub returns-clause-fills : goal.returns-clause-fills
+returns-clause-fills g c =
+    let all : Seg = record { start = 0; count = c.args.units } in
+    record {
+      gaps = λ u l. c.loop-seg.invariant.gaps u ∙ rw (covers_yes all u (omega arith) (omega arith), take_all c.loop-seg.seg-index c.args.held.now c.loop-seg-test.false) refl;
+      above = λ u l. c.loop-seg.invariant.gaps u ∙ rw (covers_high all u (omega arith)) refl;
+      others = c.loop-seg.invariant.others;
+    }

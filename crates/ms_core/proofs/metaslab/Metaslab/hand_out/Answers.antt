@@ -1,53 +1,27 @@
-use Rattle.std.proofs.Common.{◌<◌, sym, subst, ap, arith}
-use Rattle.ms_core.proofs.Words.{noted, units_le, is_live, MayGrant, Grant, MsState, origin_of, allocating_of, book_in, origin_in}
-use Rattle.ms_core.proofs.Mirroring.{grant_vacant, grant_apart}
-use Rattle.ms_core.proofs.Counted.{live_grant}
-use Rattle.ms_core.proofs.Keeping.{kept, grants}
+use Rattle.std.proofs.Common.{ap, refl, arith}
+use Rattle.ms_core.proofs.Words.{MsState}
+use Rattle.ms_core.proofs.Mirroring.{can_grant}
+use Rattle.ms_core.proofs.Keeping.{granted_few, acted_in_room, grants}
 use Rattle.ms_core.proofs.Sparing.{waiting_moved}
 use Rattle.ms_core.proofs.metaslab.Metaslab.hand_out.Goals as goal
 
 pub move_seg-requires : goal.move_seg-requires
 move_seg-requires g c =
-    let m = c.self.inside in
-    let k = c.self.invariant.kept in
-    let set = g.R.SegTrees.set m.trees in
-    let may = subst (λ (s : MsState). MayGrant (origin_of s) s.notes c.args.group.0 c.args.seg) (sym c.self.view_is) c.requires.may in
-    let room = subst (λ (s : MsState). 0 < s.room) (sym c.self.view_is) c.requires.room in
-    record {
-      differ = λ e. omega arith;
-      segment = record { some = may.within.some; within = omega (arith, may.within.within, k.most) };
-      covered = grant_vacant (origin_in (book_in m)) m.notes.items set k.legal k.mirrors c.args.group.0 c.args.seg may;
-      apart = grant_apart (origin_in (book_in m)) m.notes.items set k.legal k.mirrors c.args.group.0 c.args.seg may;
-      spare = omega (arith, room);
-    }
+    let may = rw (← c.self.view_is) at c.requires.may in
+    let room = rw (← c.self.view_is) at c.requires.room in
+    record { can = can_grant c.self.invariant.kept.legal c.self.invariant.kept.mirrors c.self.invariant.kept.most may; spare = omega (arith, room) }
 
 pub overflow_add-self : goal.overflow_add-self
 overflow_add-self g c =
-    let m = c.self.inside in
-    let k = c.self.invariant.kept in
-    let set = g.R.SegTrees.set m.trees in
-    let may = subst (λ (s : MsState). MayGrant (origin_of s) s.notes c.args.group.0 c.args.seg) (sym c.self.view_is) c.requires.may in
-    let after = is_live (origin_in (book_in m)) (noted m.notes.items c.args.lane (Grant c.args.group c.args.seg)) in
-    omega (arith, k.most, k.live, live_grant (origin_in (book_in m)) m.notes.items k.legal c.args.lane c.args.group c.args.seg may, units_le after m.units)
+    let may = rw (← c.self.view_is) at c.requires.may in
+    omega (arith, c.self.invariant.kept.most, granted_few c.self.invariant.kept c.args.lane c.args.group may)
 
 pub invariant_of-self : goal.invariant_of-self
 invariant_of-self g c =
-    let m = c.self.inside in
-    let k = c.self.invariant.kept in
-    let set = g.R.SegTrees.set m.trees in
-    let may = subst (λ (s : MsState). MayGrant (origin_of s) s.notes c.args.group.0 c.args.seg) (sym c.self.view_is) c.requires.may in
-    let room = subst (λ (s : MsState). 0 < s.room) (sym c.self.view_is) c.requires.room in
-    let new = g.R.SegTrees.set c.move_seg.new.trees in
-    let moved = c.move_seg.ensures in
-    record {
-      kept =
-          kept set new (book_in m) k c.push_note.new.notes.items c.args.lane (Grant c.args.group c.args.seg) _ _ _ c.push_note.ensures.items
-          (grants set new (book_in m) k c.args.lane c.requires.lane c.args.group c.args.seg _ may moved.from moved.into moved.others c.move_cursor.ensures);
-      waiting = omega (arith, room, moved.spare, waiting_moved set new (allocating_of c.args.group.0) (omega arith) moved.others);
-      room = omega (arith, k.order, c.self.invariant.room, c.push_note.ensures.len, c.push_note.ensures.capacity);
-    }
+    let may = rw (← c.self.view_is) at c.requires.may in
+    acted_in_room c.self.invariant c.requires.lane refl c.push_note.ensures (grants c.self.invariant.kept may c.move_seg.ensures.moves c.move_cursor.ensures) c.self.view_is c.requires.room
+    (omega arith) refl (omega (arith, c.move_seg.ensures.spare, waiting_moved c.move_seg.ensures.moves (omega arith) (omega arith)))
 
 pub returns-clause-room : goal.returns-clause-room
 returns-clause-room g c =
-    let same = waiting_moved (g.R.SegTrees.set c.self.inside.trees) (g.R.SegTrees.set c.move_seg.new.trees) (allocating_of c.args.group.0) (omega arith) c.move_seg.ensures.others in
-    omega (arith, ap (λ (s : MsState). s.room) c.self.view_is, same, c.self.invariant.kept.order, c.self.invariant.waiting, c.move_seg.ensures.spare, c.push_note.ensures.capacity)
+    omega (arith, ap (λ (s : MsState). s.room) c.self.view_is, waiting_moved c.move_seg.ensures.moves (omega arith) (omega arith), c.self.invariant.kept.order, c.self.invariant.waiting, c.move_seg.ensures.spare, c.push_note.ensures.capacity)

@@ -9,9 +9,9 @@ pub returns-then-self-clause-loaded : goal.returns-then-self-clause-loaded
 returns-then-self-clause-loaded g c = λ loaded.
     let m = c.self.inside in
     let k = c.self.invariant.kept in
-    subst (λ (s : MsState). IsHistogramOf (is_vacant (origin_of s) s.notes) s.units s.ashift c.histogram.result) c.self.view_is
+    rw (← c.self.view_is)
     (histogram_along m.units m.ashift (g.R.SegTrees.set m.trees 0) (is_vacant (origin_in (book_in m)) m.notes.items) c.histogram.result
-    (vacant_same (g.R.SegTrees.set m.trees) (book_in m) k c.if-self.true)
+    (vacant_same k c.if-self.true)
     (histogram_down (g.R.SegTrees.set m.trees 0) m.units 131072 k.most (k.mirrors.within 0) m.ashift c.histogram.result c.histogram.ensures))
 
 pub one_run-requires-clause-count : goal.one_run-requires-clause-count
