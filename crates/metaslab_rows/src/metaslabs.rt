@@ -6,16 +6,14 @@ ghost use Rattle.ms_model.specs.Legal.{IsWithin};
 
 use ms_core::{Metaslab, MsFault, RunBuf};
 use row_tables::{Calls, Words, are_segs, read_segs, segs_text};
-use seg_trees::PlainTrees;
+use seg_trees::SegTrees;
 use std::alloc::{AllocError, Global};
 use zms_units::{Class, Group, MsId, Seg, VdevRow};
 
-type Plain = Metaslab<PlainTrees>;
-
 /// The metaslab that the last row `new` or `load` made.
 #[derive(Drop)]
-pub struct MetaslabCalls {
-    metaslab: Option<Plain>,
+pub struct MetaslabCalls<T: SegTrees> {
+    metaslab: Option<Metaslab<T>>,
 }
 
 /// A lane, a group and a segment.
@@ -51,7 +49,11 @@ fn fault_text(alloc: Global, fault: MsFault) -> Result<String, AllocError> {
 }
 
 /// A metaslab of so many units of 4096 bytes, which holds these.
-fn holding(alloc: Global, units: u32, held: &[Seg]) -> Result<Plain, AllocError>
+fn holding<T: SegTrees + Drop>(
+    alloc: Global,
+    units: u32,
+    held: &[Seg],
+) -> Result<Metaslab<T>, AllocError>
     requires units { (64 ≤ units) × (units ≤ 131072) }
     requires held { AreSegs units held.now }
     ensures units { IfOk result (λ metaslab. metaslab.units ≡ units) }
@@ -73,7 +75,11 @@ fn holding(alloc: Global, units: u32, held: &[Seg]) -> Result<Plain, AllocError>
 }
 
 /// The same, with its free space in memory.
-fn loaded(alloc: Global, units: u32, held: &[Seg]) -> Result<Plain, AllocError>
+fn loaded<T: SegTrees + Drop>(
+    alloc: Global,
+    units: u32,
+    held: &[Seg],
+) -> Result<Metaslab<T>, AllocError>
     requires units { (64 ≤ units) × (units ≤ 131072) }
     requires held { AreSegs units held.now }
 {
@@ -95,7 +101,11 @@ fn is_within(units: u32, seg: Seg) -> bool
 }
 
 /// `LANE GROUP COUNT`
-fn grant(alloc: Global, metaslab: &mut Plain, words: &mut Words<'_>) -> Result<String, AllocError> {
+fn grant<T: SegTrees + Drop>(
+    alloc: Global,
+    metaslab: &mut Metaslab<T>,
+    words: &mut Words<'_>,
+) -> Result<String, AllocError> {
     let (Some(lane), Some(group), Some(count)) = (words.byte(), words.number(), words.small())
     else {
         return text(alloc, "no call");
@@ -116,9 +126,9 @@ fn grant(alloc: Global, metaslab: &mut Plain, words: &mut Words<'_>) -> Result<S
 }
 
 /// `LANE GROUP START:COUNT`, a free or a take-back
-fn give_back(
+fn give_back<T: SegTrees + Drop>(
     alloc: Global,
-    metaslab: &mut Plain,
+    metaslab: &mut Metaslab<T>,
     is_free: bool,
     words: &mut Words<'_>,
 ) -> Result<String, AllocError> {
@@ -144,9 +154,9 @@ fn give_back(
 }
 
 /// `LANE GROUP ROOM`: the runs that the group gained and gave back.
-fn collect(
+fn collect<T: SegTrees + Drop>(
     alloc: Global,
-    metaslab: &mut Plain,
+    metaslab: &mut Metaslab<T>,
     words: &mut Words<'_>,
 ) -> Result<String, AllocError> {
     let (Some(lane), Some(group), Some(room)) = (words.byte(), words.number(), words.small()) else {
@@ -169,9 +179,9 @@ fn collect(
 }
 
 /// `LANE GROUP`
-fn settle(
+fn settle<T: SegTrees + Drop>(
     alloc: Global,
-    metaslab: &mut Plain,
+    metaslab: &mut Metaslab<T>,
     words: &mut Words<'_>,
 ) -> Result<String, AllocError> {
     match (words.byte(), words.number()) {
@@ -187,7 +197,7 @@ fn settle(
     }
 }
 
-fn counts(alloc: Global, metaslab: &Plain) -> Result<String, AllocError> {
+fn counts<T: SegTrees + Drop>(alloc: Global, metaslab: &Metaslab<T>) -> Result<String, AllocError> {
     let counts = metaslab.counts();
     format!(in alloc;
         "live {} deferred {} vacant {}",
@@ -195,7 +205,7 @@ fn counts(alloc: Global, metaslab: &Plain) -> Result<String, AllocError> {
     )
 }
 
-impl MetaslabCalls {
+impl<T: SegTrees + Drop> MetaslabCalls<T> {
     pub fn new() -> Self {
         MetaslabCalls { metaslab: None }
     }
@@ -241,9 +251,9 @@ impl MetaslabCalls {
 }
 
 /// A call on the metaslab that is there.
-fn act(
+fn act<T: SegTrees + Drop>(
     alloc: Global,
-    metaslab: &mut Plain,
+    metaslab: &mut Metaslab<T>,
     name: &str,
     words: &mut Words<'_>,
 ) -> Result<String, AllocError> {
@@ -259,7 +269,7 @@ fn act(
     }
 }
 
-impl Calls for MetaslabCalls {
+impl<T: SegTrees + Drop> Calls for MetaslabCalls<T> {
     fn answer(&mut self, alloc: Global, words: &mut Words<'_>) -> Result<String, AllocError> {
         match words.word() {
             "new" => self.begin(alloc, false, words),

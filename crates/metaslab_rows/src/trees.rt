@@ -4,7 +4,7 @@ ghost use Rattle.std.specs.Prelude.{◌≡◌, true};
 ghost use Rattle.seg_trees.specs.Sets.{IsSegment};
 
 use row_tables::{Calls, Words};
-use seg_trees::{PlainTrees, SegTrees, Steps, TREES};
+use seg_trees::{SegTrees, Steps, TREES};
 use std::alloc::{AllocError, Global};
 use std::fmt::Write;
 use std::sync::ledger::Ledger;
@@ -15,8 +15,8 @@ const ROOM: u32 = 40;
 
 /// The trees that the last row `new` made.
 #[derive(Drop)]
-pub struct TreeCalls<L: Ledger> {
-    trees: PlainTrees,
+pub struct TreeCalls<T: SegTrees, L: Ledger> {
+    trees: T,
     steps: Steps<L>,
 }
 
@@ -52,17 +52,22 @@ fn unit_text(alloc: Global, unit: Option<u32>) -> Result<String, AllocError> {
     }
 }
 
-impl<L: Ledger> TreeCalls<L> {
+impl<T: SegTrees + Drop, L: Ledger> TreeCalls<T, L> {
     pub fn new(alloc: Global, steps: Steps<L>) -> Self {
         TreeCalls {
-            trees: PlainTrees::new(alloc),
+            trees: T::new(alloc),
             steps,
         }
     }
 
+    /// Ends the trees, and gives the count of their steps back.
+    pub fn into_steps(self) -> Steps<L> {
+        self.steps
+    }
+
     /// Empty trees with memory for some calls.
     fn begin(&mut self, alloc: Global) -> Result<String, AllocError> {
-        let mut trees = PlainTrees::new(alloc);
+        let mut trees = T::new(alloc);
         let before = trees.spare();
         trees.reserve(ROOM)?;
         let after = trees.spare();
@@ -198,7 +203,7 @@ impl<L: Ledger> TreeCalls<L> {
     }
 }
 
-impl<L: Ledger> Calls for TreeCalls<L> {
+impl<T: SegTrees + Drop, L: Ledger> Calls for TreeCalls<T, L> {
     fn answer(&mut self, alloc: Global, words: &mut Words<'_>) -> Result<String, AllocError> {
         let name = words.word();
         match name {

@@ -7,6 +7,8 @@ use Rattle.std.proofs.lemmas.List.Sums.{sum_by-cons}
 use Rattle.zms_units.specs.declared.segments.Seg.{Seg}
 use Rattle.zms_units.specs.Segments.{covered}
 use Rattle.zms_units.specs.Apart.{AreApartFrom}
+use Rattle.zms_units.specs.declared.histograms.Histogram.{Histogram}
+use Rattle.zms_units.specs.Weights.{IsHistogramOf}
 use Rattle.seg_trees.specs.Sets.{Sets, HoldsAll, OthersStay, nodes_of, size_of, all_nodes}
 use Rattle.seg_trees.specs.Kept.{sets_of}
 use Rattle.seg_trees.proofs.Sizes.{nodes_of-covered, size_of-covered}
@@ -173,6 +175,9 @@ module _ {pool : Pool RunNode} {trees : List Tree} (a : AreTrees pool trees) (i 
       ap (λ q. size_of (covered q)) (get_or-map (runs_of pool) trees i d [] within)
       ∙ size_of-covered (runs_of pool (get_or trees i d)) (a.each i d within).apart
       ∙ sym (a.each i d within).units
+
+  pub histogram_at : (ashift : ℕ) (hist : Histogram) → IsHistogramOf (units_of pool (get_or trees i d)) 131072 ashift hist → IsHistogramOf (sets_of (map (runs_of pool) trees) i) 131072 ashift hist
+  histogram_at ashift hist h = subst (λ (rs : List Seg). IsHistogramOf (λ u. covered rs u) 131072 ashift hist) (sym (get_or-map (runs_of pool) trees i d [] within)) h
 
 -- as many nodes as all trees have
 nodes_in : (pool : Pool RunNode) (sets : Sets) (k : ℕ) (ts : List Tree) → ((i : ℕ) (d : Tree) → i < length ts → nodes_of (sets (k + i)) ≡ length (placed pool (get_or ts i d))) → sum_by (λ tree. nodes_of (sets tree)) (range_with_len k (length ts)) ≡ sum_by (λ t. length (placed pool t)) ts

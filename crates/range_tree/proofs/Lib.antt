@@ -11,3 +11,5 @@ pub mod Steering
 pub mod Among
 pub mod Empty
 pub mod Moved
+pub mod Seen
+pub mod Counts

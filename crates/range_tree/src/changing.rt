@@ -65,7 +65,7 @@ fn join_right(pool: &mut SegPool<RunNode>, tree: &mut Tree, seg: Seg) -> (u32, u
 
 /// Adds a segment that meets nothing in the tree, joined with the runs that it touches, and tells how many nodes were
 /// visited.
-pub fn add(pool: &mut SegPool<RunNode>, tree: &mut Tree, seg: Seg) -> u32
+pub(crate) fn add(pool: &mut SegPool<RunNode>, tree: &mut Tree, seg: Seg) -> u32
     requires tree { IsTree pool.old tree.old }
     requires segment { IsSegment seg }
     requires apart { HoldsNone (units_of pool.old tree.old) seg }
@@ -105,7 +105,7 @@ fn put_part(pool: &mut SegPool<RunNode>, tree: &mut Tree, part: Seg) -> u32
 }
 
 /// Takes a segment away that the tree covers, and tells how many nodes were visited.
-pub fn remove(pool: &mut SegPool<RunNode>, tree: &mut Tree, seg: Seg) -> u32
+pub(crate) fn remove(pool: &mut SegPool<RunNode>, tree: &mut Tree, seg: Seg) -> u32
     requires tree { IsTree pool.old tree.old }
     requires segment { IsSegment seg }
     requires covered { HoldsAll (units_of pool.old tree.old) seg }

@@ -15,7 +15,7 @@ use seg_pool::{NodeNo, SegPool};
 use zms_units::Seg;
 
 /// The first run that ends at a unit or behind it, and how many nodes were visited.
-pub fn first_ending(pool: &SegPool<RunNode>, tree: &Tree, unit: u32) -> (Option<NodeNo>, u32)
+pub(crate) fn first_ending(pool: &SegPool<RunNode>, tree: &Tree, unit: u32) -> (Option<NodeNo>, u32)
     requires { IsTree pool.now tree.now }
     ensures found { FindsEnding pool.now tree.now unit result.0 }
     ensures visits { result.1 ≤ descent (length (placed pool.now tree.now)) }
@@ -28,7 +28,7 @@ pub fn first_ending(pool: &SegPool<RunNode>, tree: &Tree, unit: u32) -> (Option<
 }
 
 /// The run that covers a segment whole, and how many nodes were visited.
-pub fn holder(pool: &SegPool<RunNode>, tree: &Tree, seg: Seg) -> (Option<NodeNo>, u32)
+pub(crate) fn holder(pool: &SegPool<RunNode>, tree: &Tree, seg: Seg) -> (Option<NodeNo>, u32)
     requires tree { IsTree pool.now tree.now }
     requires segment { IsSegment seg }
     ensures some { IfSome result.0 (λ (no : NodeNo). Holds pool.now tree.now seg no.0) }
@@ -46,7 +46,7 @@ pub fn holder(pool: &SegPool<RunNode>, tree: &Tree, seg: Seg) -> (Option<NodeNo>
 }
 
 /// The lowest unit of a segment that is in the tree, and how many nodes were visited.
-pub fn lowest(pool: &SegPool<RunNode>, tree: &Tree, seg: Seg) -> (Option<u32>, u32)
+pub(crate) fn lowest(pool: &SegPool<RunNode>, tree: &Tree, seg: Seg) -> (Option<u32>, u32)
     requires tree { IsTree pool.now tree.now }
     requires segment { IsSegment seg }
     ensures lowest { IfSome result.0 (IsLowest (units_of pool.now tree.now) seg) }
@@ -64,7 +64,7 @@ pub fn lowest(pool: &SegPool<RunNode>, tree: &Tree, seg: Seg) -> (Option<u32>, u
 }
 
 /// How many units at the front of a segment are all in the tree, or all not, and which of the two.
-pub fn front(pool: &SegPool<RunNode>, tree: &Tree, seg: Seg) -> (u32, bool)
+pub(crate) fn front(pool: &SegPool<RunNode>, tree: &Tree, seg: Seg) -> (u32, bool)
     requires tree { IsTree pool.now tree.now }
     requires segment { IsSegment seg }
     ensures some { 0 < result.0 }
@@ -83,7 +83,7 @@ pub fn front(pool: &SegPool<RunNode>, tree: &Tree, seg: Seg) -> (u32, bool)
 }
 
 /// The shortest run of at least so many units, and of these the lowest, and how many nodes were visited.
-pub fn best(pool: &SegPool<RunNode>, tree: &Tree, count: u32) -> (Option<Seg>, u32)
+pub(crate) fn best(pool: &SegPool<RunNode>, tree: &Tree, count: u32) -> (Option<Seg>, u32)
     requires { IsTree pool.now tree.now }
     ensures best { IfSome result.0 (IsBest (units_of pool.now tree.now) 131072 count) }
     ensures none { IfNone result.0 (NoneFrom (units_of pool.now tree.now) 131072 count 0) }
@@ -98,7 +98,7 @@ pub fn best(pool: &SegPool<RunNode>, tree: &Tree, count: u32) -> (Option<Seg>, u
 }
 
 /// The length of the longest run.
-pub fn largest(pool: &SegPool<RunNode>, tree: &Tree) -> u32
+pub(crate) fn largest(pool: &SegPool<RunNode>, tree: &Tree) -> u32
     requires { IsTree pool.now tree.now }
     ensures { IsLargest (units_of pool.now tree.now) 131072 result }
 {

@@ -6,10 +6,10 @@ use zms_units::Seg;
 
 /// A run with its links in both orders.
 #[derive(Debug, Clone, Copy)]
-pub struct RunNode {
-    pub seg: Seg,
-    pub by_place: Links,
-    pub by_size: Links,
+pub(crate) struct RunNode {
+    pub(crate) seg: Seg,
+    pub(crate) by_place: Links,
+    pub(crate) by_size: Links,
 }
 
 const UNLINKED: Links = Links {
@@ -21,7 +21,7 @@ const UNLINKED: Links = Links {
 
 impl RunNode {
     /// A run that is in no order.
-    pub fn new(seg: Seg) -> Self
+    pub(crate) fn new(seg: Seg) -> Self
         ensures { result.seg ≡ seg }
     {
         RunNode {
@@ -33,10 +33,10 @@ impl RunNode {
 }
 
 /// Runs by their ends, which is by their starts too where they share no unit. Each subtree knows its longest run.
-pub struct ByPlace;
+pub(crate) struct ByPlace;
 
 /// Runs by their lengths, and those of one length by their starts.
-pub struct BySize;
+pub(crate) struct BySize;
 
 impl Order for ByPlace {
     type Node = RunNode;

@@ -92,7 +92,12 @@ fn first_long(pool: &SegPool<RunNode>, root: NodeNo, count: u32) -> (Seg, u32)
 }
 
 /// The lowest run of at least `count` units that starts at `at` or behind it, and how many nodes were visited.
-pub fn first_from(pool: &SegPool<RunNode>, tree: &Tree, count: u32, at: u32) -> (Option<Seg>, u32)
+pub(crate) fn first_from(
+    pool: &SegPool<RunNode>,
+    tree: &Tree,
+    count: u32,
+    at: u32,
+) -> (Option<Seg>, u32)
     requires { IsTree pool.now tree.now }
     ensures first { IfSome result.0 (IsFirstFrom (units_of pool.now tree.now) 131072 count at) }
     ensures none { IfNone result.0 (NoneFrom (units_of pool.now tree.now) 131072 count at) }

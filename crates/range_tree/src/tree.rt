@@ -3,6 +3,8 @@
 ghost use Rattle.std.specs.Prelude.{◌≡◌, ℕ, ◌+◌, ◌*◌, ◌^◌, ◌<◌, ◌≤◌, [], not, ◌&&◌, ◌||◌, length};
 ghost use Rattle.std.specs.List.{Contains};
 ghost use Rattle.zms_units.specs.Segments.{covers};
+ghost use Rattle.zms_units.specs.Limits.{IsShift};
+ghost use Rattle.zms_units.specs.Weights.{IsHistogramOf};
 ghost use Rattle.seg_trees.specs.Sets.{HoldsAll, IsSegment};
 ghost use Rattle.range_tree.specs.Descents.{descent};
 ghost use Rattle.seg_pool.specs.Pool.{Pool};
@@ -12,16 +14,16 @@ ghost use Rattle.range_tree.specs.Kept.{seg_at, placed, units_of, IsTree, Touche
 use crate::node::{ByPlace, BySize, RunNode};
 use seg_order::SegOrder;
 use seg_pool::{NodeNo, SegPool};
-use zms_units::Seg;
+use zms_units::{Histogram, Seg};
 
 // Lengths of 1 to `MAX_UNITS` units have their highest set bit at 0 to 17.
 const LENGTHS: usize = 18;
 
 /// A set of units as its maximal runs, one node for each.
 #[derive(Drop)]
-pub struct Tree {
-    pub places: SegOrder<ByPlace>,
-    pub sizes: SegOrder<BySize>,
+pub(crate) struct Tree {
+    pub(crate) places: SegOrder<ByPlace>,
+    pub(crate) sizes: SegOrder<BySize>,
     nodes: u32,
     units: u32,
     // How many runs there are whose length in units has its highest set bit at each place.
@@ -41,7 +43,7 @@ fn length_bit(count: u32) -> usize
 
 impl Tree {
     /// A tree without runs, over each pool.
-    pub fn new() -> Self
+    pub(crate) fn new() -> Self
         ensures tree { (pool : Pool RunNode) → IsTree pool result }
         ensures empty { (pool : Pool RunNode) → placed pool result ≡ [] }
     {
@@ -54,22 +56,41 @@ impl Tree {
         }
     }
 
+    /// The node on top of the order by place, none exactly where there is no run.
+    pub(crate) fn top(&self) -> Option<NodeNo>
+        ensures { result ≡ self.now.places.root }
+    {
+        self.places.root()
+    }
+
     /// How many runs there are.
-    pub fn nodes(&self) -> u32
+    pub(crate) fn nodes(&self) -> u32
         ensures { result ≡ self.now.nodes }
     {
         self.nodes
     }
 
     /// How many units there are.
-    pub fn units(&self) -> u32
+    pub(crate) fn units(&self) -> u32
         ensures { result ≡ self.now.units }
     {
         self.units
     }
 
+    /// How many runs there are of each length in bytes, by its highest set bit, with units of `2^ashift` bytes.
+    pub(crate) fn histogram(&self, ashift: u8) -> Histogram
+        requires { IsShift ashift }
+        ensures { (pool : Pool RunNode) → IsTree pool self.now → IsHistogramOf (units_of pool self.now) 131072 ashift result }
+    {
+        let mut hist = Histogram::empty();
+        for bit in 0..LENGTHS {
+            hist.runs[ashift as usize + bit] = self.lengths[bit];
+        }
+        hist
+    }
+
     /// Puts a run in that touches no other, and tells how many nodes were visited.
-    pub fn put(&mut self, pool: &mut SegPool<RunNode>, run: Seg) -> u32
+    pub(crate) fn put(&mut self, pool: &mut SegPool<RunNode>, run: Seg) -> u32
         requires tree { IsTree pool.old self.old }
         requires segment { IsSegment run }
         requires around { HoldsNoneAround (units_of pool.old self.old) run }
@@ -90,7 +111,7 @@ impl Tree {
     }
 
     /// Takes a run out, and gives its node back to the pool.
-    pub fn take_out(&mut self, pool: &mut SegPool<RunNode>, no: NodeNo) -> (Seg, u32)
+    pub(crate) fn take_out(&mut self, pool: &mut SegPool<RunNode>, no: NodeNo) -> (Seg, u32)
         requires tree { IsTree pool.old self.old }
         requires listed { Contains (placed pool.old self.old) no.0 }
         ensures run { result.0 ≡ seg_at pool.old no.0 }
@@ -110,5 +131,21 @@ impl Tree {
         self.units -= run.count;
         self.lengths[length_bit(run.count)] -= 1;
         (run, by_place + by_size)
+    }
+
+    /// Takes the run on top out, and gives its node back to the pool.
+    pub(crate) fn take_top(&mut self, pool: &mut SegPool<RunNode>) -> Seg
+        requires tree { IsTree pool.old self.old }
+        requires some { 0 < length (placed pool.old self.old) }
+        ensures tree { IsTree pool.new self.new }
+        ensures segment { IsSegment result }
+        ensures held { HoldsAll (units_of pool.old self.old) result }
+        ensures units { (u : ℕ) → units_of pool.new self.new u ≡ (not (covers result u) && units_of pool.old self.old u) }
+        ensures touches { Touches pool.old pool.new (placed pool.old self.old) (placed pool.new self.new) }
+        ensures nodes { length (placed pool.new self.new) + 1 ≡ length (placed pool.old self.old) }
+    {
+        let Some(no) = self.top() else { unreachable!() };
+        let (run, _) = self.take_out(pool, no);
+        run
     }
 }

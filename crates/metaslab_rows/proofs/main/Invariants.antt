@@ -1,4 +1,4 @@
 use Rattle.metaslab_rows.proofs.main.Given as goal
 
-abbrev pub ghosts-call_trees : goal.ghosts-call_trees
-ghosts-call_trees a = record { name = a.blank.name; parts = a.blank.parts }
+abbrev pub ghosts-call_forms : goal.ghosts-call_forms
+ghosts-call_forms a = record { name = a.blank.name; parts = a.blank.parts }

@@ -1,0 +1,6 @@
+use Rattle.std.proofs.Common.{arith}
+use Rattle.seg_trees.proofs.Nodes.{may_reserve}
+use Rattle.tree_rows.proofs.runs.vacate.Goals as goal
+
+pub reserve-requires : goal.reserve-requires
+reserve-requires g c = record { most = may_reserve _ 2 (omega arith) }
