@@ -1,0 +1,5 @@
+pub mod Journals
+pub mod Answers
+pub mod Pairs
+pub mod Rotors
+pub mod Walks

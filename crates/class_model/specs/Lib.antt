@@ -1,0 +1,4 @@
+pub mod Replay
+pub mod Picks
+pub mod Legal
+pub mod Laws
