@@ -1,0 +1,9 @@
+pub mod Turning
+pub mod Groups
+pub mod Lifting
+pub mod Gating
+pub mod Gathering
+pub mod Refusals
+pub mod Keeping
+pub mod Ending
+pub mod Bases

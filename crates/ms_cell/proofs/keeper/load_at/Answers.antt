@@ -1,0 +1,29 @@
+use Rattle.zms_units.specs.Segments.{AreSegs}
+use Rattle.std.proofs.Common.{ℕ, ◌<◌, length, sym, subst}
+use Rattle.ms_cell.specs.Turns.{Turns, turns_in}
+use Rattle.ms_cell.specs.Passes.{Passes}
+use Rattle.ms_cell.proofs.Lifting.{turned_in, ready_in, below_in, units_in}
+use Rattle.ms_cell.proofs.keeper.load_at.Goals as goal
+
+pub load-requires-clause-ready : goal.load-requires-clause-ready
+load-requires-clause-ready g c =
+    let p : Passes = record { gate = c.passes.inside.gate; metaslabs = c.passes.inside.metaslabs.items } in
+    let at = c.place_of-at.result in
+    let there = subst (λ (t : Turns). at < length t.metaslabs) (sym c.cells.view_is) c.place_of-at.ensures.within in
+    ready_in 0 (turns_in c.cells.inside) c.args.cells.now p c.args.passes.now at c.index-cell.result.now c.index_mut.result.now c.cells.view_is c.passes.view_is c.requires.seated there c.index-cell.ensures c.index_mut.ensures.value
+
+pub returns : goal.returns
+returns g c =
+    let p : Passes = record { gate = c.passes.inside.gate; metaslabs = c.passes.inside.metaslabs.items } in
+    let at = c.place_of-at.result in
+    let there = subst (λ (t : Turns). at < length t.metaslabs) (sym c.cells.view_is) c.place_of-at.ensures.within in
+    let below = below_in 0 (turns_in c.cells.inside) c.args.cells.now p c.args.passes.now at c.cells.view_is c.passes.view_is c.requires.seated there in
+    turned_in 0 _ c.args.cells.now p c.args.passes.now at _ c.index_mut.result.now c.load.new.pass c.passes.view_is c.place_of-at.ensures.place c.requires.seated below c.index_mut.ensures.value c.load.ensures
+
+pub load-requires-clause-segs : goal.load-requires-clause-segs
+load-requires-clause-segs g c =
+    let p : Passes = record { gate = c.passes.inside.gate; metaslabs = c.passes.inside.metaslabs.items } in
+    let at = c.place_of-at.result in
+    let there = subst (λ (t : Turns). at < length t.metaslabs) (sym c.cells.view_is) c.place_of-at.ensures.within in
+    let below = below_in 0 (turns_in c.cells.inside) c.args.cells.now p c.args.passes.now at c.cells.view_is c.passes.view_is c.requires.seated there in
+    subst (λ (n : ℕ). AreSegs n c.args.held.now) (units_in 0 c.args.cells.now p c.args.passes.now at c.index_mut.result.now c.args.id c.passes.view_is c.requires.seated below c.index_mut.ensures.value c.place_of-at.ensures.one_to_one) c.requires.segs

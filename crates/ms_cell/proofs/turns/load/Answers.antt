@@ -1,0 +1,9 @@
+use Rattle.ms_cell.proofs.Turning.{turned_by}
+use Rattle.ms_cell.proofs.turns.load.Goals as goal
+
+pub returns : goal.returns
+returns g c =
+    let took = c.take-held in
+    let act = c.load-answer in
+    turned_by 0 c.args.cell.now _ c.args.pass.now took.new.pass c.give.new.pass took.result c.value_mut.result.now act.new.metaslab act.result.1 c.value_mut.ensures.value
+    c.requires.ready took.ensures.pass took.ensures.seen took.ensures.whole took.ensures.stands c.give.ensures.pass act.ensures.notes act.ensures.own act.ensures.answer

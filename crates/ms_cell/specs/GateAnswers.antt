@@ -1,0 +1,32 @@
+-- What a call at the gate answers and notes, by the journal that its turn found.
+use Rattle.std.specs.Prelude.{◌≡◌, ◌↔◌, ℕ, ◌+◌, Bool, IsTrue, Option, Some, None, List, Result, Ok, Err}
+use Rattle.zms_units.specs.declared.segments.Group.{Group}
+use Rattle.ms_model.specs.Gates.{open_group, synced_group, MayPass}
+use Rattle.ms_model.specs.declared.notes.GateNote.{GateNote}
+use Rattle.ms_model.specs.declared.notes.GateNote.TheVariants.{Closed, Settled}
+use Rattle.txg_gate.specs.GateState.{GateState, IsQuiesced}
+use Rattle.txg_gate.specs.declared.gate.TooMany.{TooMany}
+use Rattle.ms_cell.specs.declared.answers.CloseFault.{CloseFault}
+use Rattle.ms_cell.specs.declared.answers.CloseFault.TheVariants.{TooMany as Many, Memory}
+
+-- the open group is the third above the settled one
+pub record AreTooMany (opened : ℕ) (many : TooMany) (h : List GateNote) : Type 0 where
+  pub third : open_group opened h ≡ synced_group opened h + 3
+  pub open_is : many.open_group.0 ≡ open_group opened h
+  pub synced_is : many.synced.0 ≡ synced_group opened h
+
+abbrev pub CloseAnswer : ℕ → ℕ → Result Group CloseFault → List GateNote → Option GateNote → Type 0
+CloseAnswer opened lane (Ok group) h added = (added ≡ Some (Closed lane group)) × (group.0 ≡ open_group opened h)
+CloseAnswer opened lane (Err (Many many)) h added = (added ≡ None) × AreTooMany opened many h
+CloseAnswer opened lane (Err Memory) h added = added ≡ None
+
+abbrev pub SettledAnswer : ℕ → Group → List GateNote → Option GateNote → Type 0
+SettledAnswer opened group h added = (added ≡ Some (Settled group)) × MayPass opened h (Settled group)
+
+-- of a gate with this journal, whose holds stand in no journal
+pub record QuiescedAnswer (opened : ℕ) (group : Group) (quiesced : Bool) (h : List GateNote) (note : Option GateNote) : Type 0 where
+  pub quiet : note ≡ None
+  pub gate : GateState
+  pub opened_is : gate.opened ≡ opened
+  pub notes : gate.notes ≡ h
+  pub answer : IsTrue quiesced ↔ IsQuiesced gate group.0
