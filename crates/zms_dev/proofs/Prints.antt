@@ -4,7 +4,7 @@ use Rattle.std.specs.Prelude.{is_some, IsSome, IsErr, OnOk, OnErr}
 use Rattle.std.proofs.lemmas.List.{append-nil, take-append-le, take_min}
 use Rattle.std.proofs.Math.Seq.{take-append-add, take-length}
 use Rattle.zms_dev.specs.Causes.{HasCause, one_more}
-use Rattle.zms_dev.specs.Prints.{Prints}
+use Rattle.zms_dev.specs.Prints.{Prints, HandsOn}
 use Rattle.zms_dev.specs.Stream.{SinkState, told}
 use Rattle.zms_dev.proofs.Counts.{no_fewer, cause_then}
 
@@ -103,19 +103,34 @@ prints_tail a b c xs ys text r first then e = rw e (record {
   cause = cause_then a.faults b.faults c.faults r first.steady then.cause;
 })
 
--- what was handed on after a text, or was lost on the way
-pub prints_flushed : {T E : Type 0} (a b c : SinkState) (text : List ℕ) (r s : Result T E) (x : T)
-    → Prints a b text r → r ≡ Ok x → c.taken ≡ b.taken → HasCause b.faults c.faults s → Prints a c text s
-prints_flushed a b c text r s x first ok same cause =
+-- a text, and the flush behind it
+pub hands_on : {T E : Type 0} (a b c : SinkState) (text : List ℕ) (r s : Result T E) (x : T)
+    → Prints a b text r → r ≡ Ok x → c.taken ≡ b.taken → OnOk s (c.handed ≡ b.taken) → HasCause b.faults c.faults s → HandsOn a c text s
+hands_on a b c text r s x first ok same handed cause =
     let all = took_first a b text r x first ok in
     let told_same : told c.taken ≡ told b.taken = ap told same in
     record {
-      kind = ap is_some same ∙ all.kind;
-      whole = λ tells. on_ok s (told_same ∙ all.whole tells);
-      partly = λ tells. (length text, told_same ∙ all.whole tells ∙ ap (λ l. told a.taken ++ l) (sym (take-length text)));
-      cause = cause_then a.faults b.faults c.faults s all.steady cause;
+      prints = record {
+        kind = ap is_some same ∙ all.kind;
+        whole = λ tells. on_ok s (told_same ∙ all.whole tells);
+        partly = λ tells. (length text, told_same ∙ all.whole tells ∙ ap (λ l. told a.taken ++ l) (sym (take-length text)));
+        cause = cause_then a.faults b.faults c.faults s all.steady cause;
+      };
+      left = left_now s handed;
     }
   where
     on_ok : {T E P : Type 0} (r : Result T E) → P → OnOk r P
     on_ok (Ok x) held = held
     on_ok (Err y) held = tt
+
+    left_now : {T E : Type 0} (r : Result T E) → OnOk r (c.handed ≡ b.taken) → OnOk r (c.handed ≡ c.taken)
+    left_now (Ok x) handed = handed ∙ sym same
+    left_now (Err y) handed = tt
+
+-- a text that failed was not handed on
+pub hands_on_failed : {T E S F : Type 0} (a b : SinkState) (text : List ℕ) (r : Result T E) (y : E) (s : Result S F)
+    → Prints a b text r → r ≡ Err y → IsErr s → HandsOn a b text s
+hands_on_failed a b text r y s first bad out = record {
+  prints = prints_failed_first a b text [] text r y s first bad out (sym (append-nil text));
+  left = whole_at_err s _ out;
+}

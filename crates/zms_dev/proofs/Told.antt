@@ -18,6 +18,14 @@ pub counted : {T E : Type 0} (old new : ScriptState) (result : Result T E) → n
 counted old new (Ok x) is = rw (ap (λ (s : ScriptState). s.faults) is) (record { later = omega arith; steady = refl; failed = tt })
 counted old new (Err e) is = rw (ap (λ (s : ScriptState). s.faults) is) (record { later = no_fewer old.faults; steady = tt; failed = refl })
 
+-- a call that only looked at a device: nothing changed, but for its moment and its count of faults
+pub record Looks {T E : Type 0} (old new : DiskState) (before now : ℕ) (result : Result T E) : Type 0 where
+  pub stays : Stays old new
+  pub flushes : new.flushes ≡ old.flushes
+  pub kind : SameKind old new
+  pub time : Elapses old new
+  pub cause : HasCause before now result
+
 abbrev either : Bool → List Step → Step → List Step
 either noted steps step = if noted then steps ++ step ∷ [] else steps
 
@@ -61,6 +69,17 @@ module _ (first : List ℕ) (steps : List Step) where
 
     pub told_time : (step : Step) → new ≡ either noted steps step → Elapses was (history other new)
     told_time step are = subst (λ (d : DiskState). Elapses was d) (history_is other new _ same are) (either_elapses noted step)
+
+    -- a call that only looks
+    pub told_looked : {T E : Type 0} (script now : ScriptState) (result : Result T E) → new ≡ either noted steps looked → now ≡ after_call script (is_ok result)
+        → Looks was (history other new) script.faults now.faults result
+    told_looked script now result are counts = record {
+      stays = told_stays are;
+      flushes = told_flushes are;
+      kind = one_kind first steps new other;
+      time = told_time looked are;
+      cause = counted script now result counts;
+    }
 
     -- by whether the call went well
     pub told_time_by : {T E : Type 0} (result : Result T E) (good bad : Step) → OnOk result (new ≡ steps ++ good ∷ []) → OnErr result (new ≡ either noted steps bad) → Elapses was (history other new)

@@ -7,9 +7,10 @@ pub record SourceForm : Type 0 where
   pub left : List ℕ
   pub script : ScriptState
 
--- a sink: the bytes that it has taken, and how many it has room for in all
+-- a sink: the bytes that it has taken, those that it has handed on, and how many it has room for in all
 pub record SinkForm : Type 0 where
   pub taken : List ℕ
+  pub handed : List ℕ
   pub room : ℕ
   pub script : ScriptState
 

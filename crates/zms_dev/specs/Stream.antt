@@ -6,9 +6,12 @@ pub record SourceState : Type 0 where
   pub left : Option (List ℕ)
   pub faults : ℕ
 
--- a sink at a moment: the bytes that it has taken, where it tells them, and how often it has failed
+-- a sink at a moment: the bytes that it has taken and those that it has handed on, where it tells them, and how often it
+-- has failed
 pub record SinkState : Type 0 where
   pub taken : Option (List ℕ)
+  -- all that it had taken at its last flush that succeeded
+  pub handed : Option (List ℕ)
   pub faults : ℕ
 
 -- the bytes that an object tells, or none where it tells nothing

@@ -1,5 +1,5 @@
 // Streams of bytes, in and out.
-ghost use Rattle.std.specs.Prelude.{◌≡◌, ◌<◌, ◌≤◌, ◌++◌, List, ℕ, length, take, Option, IsSome, is_some, IfOk, OnErr};
+ghost use Rattle.std.specs.Prelude.{◌≡◌, ◌<◌, ◌≤◌, ◌++◌, List, ℕ, length, take, Option, IsSome, is_some, IfOk, OnOk, OnErr};
 ghost use Rattle.zms_dev.specs.Causes.{HasCause, one_more};
 ghost use Rattle.zms_dev.specs.Stream.{SourceState, SinkState, told, Takes};
 
@@ -23,7 +23,7 @@ pub trait Source {
 
 /// A place to write a text to, once and in order.
 pub trait Sink {
-    /// The bytes that it has taken, where it tells them, and how often it has failed.
+    /// The bytes that it has taken, and those that it has handed on, where it tells them, and how often it has failed.
     ghost state: { Self → SinkState };
 
     /// Takes the first bytes of the piece, and answers how many. A call that failed takes none, and one that takes none
@@ -34,6 +34,7 @@ pub trait Sink {
         ensures bytes { IsSome (state self.old).taken → IfOk result (λ n. told (state self.new).taken ≡ told (state self.old).taken ++ take n bytes.now) }
         ensures err { OnErr result ((state self.new).taken ≡ (state self.old).taken) }
         ensures kind { is_some (state self.new).taken ≡ is_some (state self.old).taken }
+        ensures handed { (state self.new).handed ≡ (state self.old).handed }
         ensures none { IfOk result (λ n. n ≡ 0 → 0 < length bytes.now → (state self.new).faults ≡ one_more (state self.old).faults) }
         ensures empty { IfOk result (λ n. length bytes.now ≡ 0 → (state self.new).faults ≡ (state self.old).faults) }
         ensures some { IfOk result (λ n. 0 < n → (state self.new).faults ≡ (state self.old).faults) }
@@ -42,5 +43,6 @@ pub trait Sink {
     /// Hands on all that it has taken, so that what is lost on the way is told.
     fn flush(&mut self) -> Result<(), Failed>
         ensures taken { (state self.new).taken ≡ (state self.old).taken }
+        ensures handed { OnOk result ((state self.new).handed ≡ (state self.old).taken) }
         ensures cause { HasCause (state self.old).faults (state self.new).faults result };
 }

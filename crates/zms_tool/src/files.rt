@@ -4,9 +4,7 @@ ghost use Rattle.std.specs.Prelude.{◌≡◌, length, IfOk};
 use crate::device::FileDevice;
 use crate::streams::{FileSink, file_sink};
 use std::alloc::{AllocError, Global};
-
-/// How many data devices a pool may have.
-const DEVICES: usize = 16;
+use zms_units::MAX_DEVICES;
 
 /// The files of a pool, none of which is opened yet. `POOL.meta` is the pool device, `POOL.d0` to `POOL.d15` are the
 /// devices of its vdevs, and `POOL.trace` is for the trace.
@@ -31,8 +29,8 @@ impl PoolFiles {
 fn data_files(alloc: Global, rt: HostRuntime, pool: &str) -> Result<Vec<FileDevice>, AllocError>
     ensures { IfOk result (λ devices. length devices.items ≡ 16) }
 {
-    let mut devices = Vec::with_capacity(alloc, DEVICES)?;
-    for index in 0..DEVICES {
+    let mut devices = Vec::with_capacity(alloc, MAX_DEVICES)?;
+    for index in 0..MAX_DEVICES {
         devices.push(FileDevice::new(rt, format!(in alloc; "{pool}.d{index}")?))?;
     }
     Ok(devices)

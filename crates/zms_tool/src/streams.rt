@@ -1,5 +1,6 @@
 //! Standard input and output, and a file that is written from its start.
-ghost use Rattle.std.specs.Prelude.{◌≡◌, ◌≤◌, true, length, IfOk, OnErr, IsErr};
+ghost use Rattle.std.specs.Prelude.{◌≡◌, ◌≤◌, true, length, take, IfOk, OnErr, IsErr};
+ghost use Rattle.std.specs.Io.KnownBytes.{Keeps, Appends};
 
 use crate::faults::Faults;
 use std::alloc::{AllocError, Global};
@@ -164,7 +165,7 @@ pub fn file_sink(alloc: Global, rt: HostRuntime, path: String) -> Result<FileSin
 impl<W: Write + Drop> Sink for StreamSink<W> {
     ghost use Rattle.std.specs.Prelude.{None};
 
-    ghost state = { λ s. record { taken = None; faults = s.faults.count } };
+    ghost state = { λ s. record { taken = None; handed = None; faults = s.faults.count } };
 
     fn write(&mut self, bytes: &[u8]) -> Result<usize, Failed> {
         self.faults
@@ -193,6 +194,8 @@ fn read_some<R: Read>(input: &mut R, buf: &mut [u8]) -> io::Result<usize>
 fn write_some<W: Write>(output: &mut W, bytes: &[u8]) -> io::Result<usize>
     ensures bound { IfOk result (λ n. n ≤ length bytes.now) }
     ensures none { IfOk result (λ n. n ≡ 0 → length bytes.now ≡ 0) }
+    ensures taken { IfOk result (λ n. Appends (W.contents output.old) (W.contents output.new) (take n bytes.now)) }
+    ensures err { OnErr result (Keeps (W.contents output.old) (W.contents output.new)) }
 {
     for _ in 0..u64::MAX {
         match output.write(bytes) {
@@ -208,6 +211,7 @@ fn write_some<W: Write>(output: &mut W, bytes: &[u8]) -> io::Result<usize>
 fn write_through<W: Write>(output: &mut W, bytes: &[u8], by_line: bool) -> io::Result<usize>
     ensures bound { IfOk result (λ n. n ≤ length bytes.now) }
     ensures none { IfOk result (λ n. n ≡ 0 → length bytes.now ≡ 0) }
+    ensures taken { IfOk result (λ n. Appends (W.contents output.old) (W.contents output.new) (take n bytes.now)) }
 {
     let taken = write_some(output, bytes)?;
     if by_line && bytes[..taken].ends_with(b"\n") {

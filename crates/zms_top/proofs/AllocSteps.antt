@@ -19,12 +19,12 @@ use Rattle.ms_model.proofs.Held.{ChangesUpTo}
 use Rattle.ms_core.specs.State.{MsState, origin_of, StaysButNotes}
 use Rattle.txg_gate.specs.GateState.{GateState}
 use Rattle.zms_top.specs.Record.{is_set}
-use Rattle.zms_top.specs.Acting.{IsPool}
+use Rattle.zms_top.specs.Pools.{IsPool}
 use Rattle.zms_top.specs.declared.pool.Pool.{Pool}
 use Rattle.zms_top.specs.declared.replies.Answer.TheVariants.{Granted, NoSpace}
-use Rattle.zms_top.specs.Sound.{IsSound, ground_of}
-use Rattle.zms_top.specs.Pooling.{IsLook, act_of}
-use Rattle.zms_top.specs.Backing.{Missed, AreLoads, AllocLine, dva_at}
+use Rattle.zms_top.specs.Sound.{IsSound, shape_of}
+use Rattle.zms_top.specs.Looks.{IsLook, act_of}
+use Rattle.zms_top.specs.Lines.{Missed, AreLoads, AllocLine, dva_at}
 use Rattle.ms_model.proofs.Histories.{LeavesGroups}
 use Rattle.zms_top.proofs.StepLemmas.{StepLeaves, StepDid, StaysButHolds, step_events, step_did, note_leaves, above_settled}
 
@@ -50,7 +50,7 @@ look_noted o lane group count h new g set first found some was above is =
 found_line : (o : Origin) (lane size : ℕ) (group : Group) (count : ℕ) (g : List GateNote) (before : List Noted) (seg : Seg)
     → 0 < size → size ≤ 16777216 → AreUnitsOf size o.ashift count → group.0 ≡ open_group o.opened g → seg.count ≡ count
     → (kept : List Event) → AreLoads lane 1 kept
-    → AllocLine (ground_of o) lane size (Granted group (dva_at (ground_of o) 0 seg ∷ [])) (step_events g (noting before (record { lane = lane; act = Grant group seg }))) kept
+    → AllocLine (shape_of o) lane size (Granted group (dva_at (shape_of o) 0 seg ∷ [])) (step_events g (noting before (record { lane = lane; act = Grant group seg }))) kept
 found_line o lane size group count g before seg some most units is counts kept loads = (
   (some, most),
   (
@@ -78,7 +78,7 @@ found_line o lane size group count g before seg some most units is counts kept l
 missed_line : (o : Origin) (lane size : ℕ) (group : Group) (count : ℕ) (g : List GateNote) (before : List Noted)
     → 0 < size → size ≤ 16777216 → AreUnitsOf size o.ashift count → group.0 ≡ open_group o.opened g
     → (kept : List Event) → AreLoads lane 1 kept
-    → AllocLine (ground_of o) lane size (NoSpace 1) (step_events g (noting before (record { lane = lane; act = Miss count }))) kept
+    → AllocLine (shape_of o) lane size (NoSpace 1) (step_events g (noting before (record { lane = lane; act = Miss count }))) kept
 missed_line o lane size group count g before some most units is kept loads = (
   (some, most),
   (
@@ -98,28 +98,28 @@ missed_line o lane size group count g before some most units is kept loads = (
 pub granted_did : (p : Pool) (m : MsState) (gate : GateState) (lane size : ℕ) (group : Group) (count : ℕ) (seg : Seg) (copies : List Dva)
     → IsPool p → 1 ≤ lane → 0 < size → size ≤ 16777216 → AreUnitsOf size 12 count → group.0 ≡ open_group p.gate.opened p.gate.notes
     → StaysButNotes p.metaslab m → StaysButHolds p.gate gate → IsLook (origin_of p.metaslab) lane group count p.metaslab.notes m.notes (Some seg)
-    → copies ≡ dva_at (ground_of (origin_of p.metaslab)) 0 seg ∷ []
-    → StepDid p lane (AllocLine (ground_of (origin_of p.metaslab)) lane size (Granted group copies)) m gate
+    → copies ≡ dva_at (shape_of (origin_of p.metaslab)) 0 seg ∷ []
+    → StepDid p lane (AllocLine (shape_of (origin_of p.metaslab)) lane size (Granted group copies)) m gate
 granted_did p m gate lane size group count seg copies was some least most units is stays held looked copies_are =
     let o : Origin = origin_of p.metaslab in
     let open_is : group.0 ≡ open_group p.metaslab.opened p.gate.notes = rw (← was.opened) is in
     let units_are : AreUnitsOf size p.metaslab.ashift count = rw was.shift units in
     let leaves = look_noted o lane group count p.metaslab.notes m.notes p.gate.notes (is_set p.record.bytes.items) p.first (Some seg) some was.sound (above_settled p group was is) looked in
     let step = noting looked.before (record { lane = lane; act = Grant group seg }) in
-    let line_is : (kept : List Event) → AreLoads lane 1 kept → AllocLine (ground_of o) lane size (Granted group copies) (step_events p.gate.notes step) kept =
+    let line_is : (kept : List Event) → AreLoads lane 1 kept → AllocLine (shape_of o) lane size (Granted group copies) (step_events p.gate.notes step) kept =
     λ kept loads. rw copies_are (found_line o lane size group count p.gate.notes looked.before seg least most units_are open_is looked.counts kept loads) in
-    step_did p m gate lane (AllocLine (ground_of o) lane size (Granted group copies)) step was stays held leaves line_is
+    step_did p m gate lane (AllocLine (shape_of o) lane size (Granted group copies)) step was stays held leaves line_is
 
 pub missed_did : (p : Pool) (m : MsState) (gate : GateState) (lane size : ℕ) (group : Group) (count : ℕ)
     → IsPool p → 1 ≤ lane → 0 < size → size ≤ 16777216 → AreUnitsOf size 12 count → group.0 ≡ open_group p.gate.opened p.gate.notes
     → StaysButNotes p.metaslab m → StaysButHolds p.gate gate → IsLook (origin_of p.metaslab) lane group count p.metaslab.notes m.notes None
-    → StepDid p lane (AllocLine (ground_of (origin_of p.metaslab)) lane size (NoSpace 1)) m gate
+    → StepDid p lane (AllocLine (shape_of (origin_of p.metaslab)) lane size (NoSpace 1)) m gate
 missed_did p m gate lane size group count was some least most units is stays held looked =
     let o : Origin = origin_of p.metaslab in
     let open_is : group.0 ≡ open_group p.metaslab.opened p.gate.notes = rw (← was.opened) is in
     let units_are : AreUnitsOf size p.metaslab.ashift count = rw was.shift units in
     let leaves = look_noted o lane group count p.metaslab.notes m.notes p.gate.notes (is_set p.record.bytes.items) p.first None some was.sound (above_settled p group was is) looked in
-    step_did p m gate lane (AllocLine (ground_of o) lane size (NoSpace 1)) (noting looked.before (record { lane = lane; act = Miss count })) was stays held leaves
+    step_did p m gate lane (AllocLine (shape_of o) lane size (NoSpace 1)) (noting looked.before (record { lane = lane; act = Miss count })) was stays held leaves
     (missed_line o lane size group count p.gate.notes looked.before least most units_are open_is)
 
 not_err : {T E : Type 0} (r : Result T E) (x : T) → r ≡ Ok x → IsErr r → ⊥

@@ -7,12 +7,12 @@ use Rattle.ms_model.specs.Origin.{Origin}
 use Rattle.ms_model.specs.declared.journals.MsJournal.{MsJournal}
 use Rattle.ms_model.specs.declared.journals.Journals.{Journals}
 use Rattle.zms_top.specs.Words.{Asks, AsksNothing}
-use Rattle.zms_dev.specs.Prints.{Prints}
+use Rattle.zms_dev.specs.Prints.{HandsOn}
 use Rattle.zms_dev.proofs.Counts.{rose, rose_more, no_fewer}
 use Rattle.zms_top.specs.World.{World}
 use Rattle.zms_top.specs.Writes.{WritesBoth}
-use Rattle.zms_top.specs.Backing.{AreIntervals}
-use Rattle.zms_top.specs.Running.{answers_of}
+use Rattle.zms_top.specs.Lines.{AreIntervals}
+use Rattle.zms_top.specs.Runs.{answers_of}
 use Rattle.zms_top.specs.Ends.{any_device, is_device, end_status, text_of, IsReadEnd, IsOpenEnd, IsOrigin, IsCutOff, LanesDid, RunEnds, CreateEnds}
 use Rattle.zms_top.specs.Causes.{Cause, HasFile, HasPool, HasNoPool, IsHonestRun, IsHonestCreate, IsDone}
 use Rattle.cmd_text.specs.declared.script.Command.{Command}
@@ -88,9 +88,9 @@ module _ (words : List (List ℕ)) (old new : World) where
   open_cause (Found _) asks file why = absurd why
 
   fault_cause : (first second : List ℕ) (e : Failed) (printed : Result (Unit {0}) Failed) → Asks words Run
-      → Prints old.out new.out first printed → OnOk printed (Prints {T = Unit {0}} old.trace new.trace second (Err e)) → To WriteFault
-  fault_cause first second e (Ok _) asks prints traces = Cause.trace_fault asks (rose old.trace.faults new.trace.faults traces.cause.failed)
-  fault_cause first second e (Err _) asks prints traces = Cause.write_fault (rose old.out.faults new.out.faults prints.cause.failed)
+      → HandsOn old.out new.out first printed → OnOk printed (HandsOn {T = Unit {0}} old.trace new.trace second (Err e)) → To WriteFault
+  fault_cause first second e (Ok _) asks prints traces = Cause.trace_fault asks (rose old.trace.faults new.trace.faults traces.prints.cause.failed)
+  fault_cause first second e (Err _) asks prints traces = Cause.write_fault (rose old.out.faults new.out.faults prints.prints.cause.failed)
 
   ran_cause : (any : Bool) (first second : List ℕ) (written : Result (Unit {0}) Failed) → Asks words Run → HasFile old.input.left
       → (group : ℕ) → HasPool old.disk group → (any ≡ true → Rose old.faults new.faults) → WritesBoth old.out new.out old.trace new.trace first second written
@@ -100,7 +100,7 @@ module _ (words : List (List ℕ)) (old new : World) where
   ran_cause false first second (Err e) asks file group pool risen writes = fault_cause first second e writes.printed asks writes.prints writes.traces
 
   end_cause : (commands : List Command) (o : Origin) (journal : MsJournal) (j : Journals) (l : RunLists) (status : Status) → Asks words Run → HasFile old.input.left → IsOrigin old.disk o
-      → IsCutOff old new o l status ⊎ LanesDid commands old new o journal j l status → To status
+      → IsCutOff old new o journal l status ⊎ LanesDid commands old new o journal j l status → To status
   end_cause commands o journal j l status asks file origin (inl cut) = subst To (sym cut.status_is) Cause.memory
   end_cause commands o journal j l status asks file origin (inr did) =
       subst To (sym did.status_is)
@@ -113,9 +113,9 @@ module _ (words : List (List ℕ)) (old new : World) where
       end_cause commands o ends.journal ends.some_journals ends.some_lists status asks (commands, file) origin ends.end
 
   made_cause : (units : ℕ) (text : List ℕ) (printed : Result (Unit {0}) Failed) → Asks words (Create units) → HasNoPool old.disk
-      → Prints old.out new.out text printed → To (end_status false printed)
+      → HandsOn old.out new.out text printed → To (end_status false printed)
   made_cause units text (Ok _) asks none prints = Cause.created units asks none
-  made_cause units text (Err _) asks none prints = Cause.write_fault (rose old.out.faults new.out.faults prints.cause.failed)
+  made_cause units text (Err _) asks none prints = Cause.write_fault (rose old.out.faults new.out.faults prints.prints.cause.failed)
 
   pub create_cause : (units : ℕ) (status : Status) → Asks words (Create units) → CreateEnds units old.out new.out old.disk new.disk old.faults new.faults status → To status
   create_cause units _ asks (CreateEnds.already group has _ _ _) = Cause.already units asks group has

@@ -20,13 +20,13 @@ use Rattle.ms_core.specs.declared.faults.MsFault.{MsFault}
 use Rattle.ms_core.specs.declared.faults.MsFault.TheVariants.{NotLive as NotLiveFault}
 use Rattle.txg_gate.specs.GateState.{GateState}
 use Rattle.zms_top.specs.Record.{is_set}
-use Rattle.zms_top.specs.Acting.{IsPool}
+use Rattle.zms_top.specs.Pools.{IsPool}
 use Rattle.zms_top.specs.declared.pool.Pool.{Pool}
 use Rattle.zms_top.specs.declared.replies.Answer.TheVariants.{Done, NotLive}
-use Rattle.zms_top.specs.Sound.{Loads, ground_of}
-use Rattle.zms_top.specs.Pooling.{IsGivenBack}
-use Rattle.zms_top.specs.Naming.{copies_at}
-use Rattle.zms_top.specs.Backing.{AreLoads, Freed, FreeLine, offset_at}
+use Rattle.zms_top.specs.Sound.{Loads, shape_of}
+use Rattle.zms_top.specs.Looks.{IsGivenBack}
+use Rattle.zms_top.specs.Names.{copies_at}
+use Rattle.zms_top.specs.Lines.{AreLoads, Freed, FreeLine, offset_at}
 use Rattle.zms_top.proofs.StepLemmas.{StepLeaves, StepDid, StaysButHolds, step_events, step_did, look_leaves, note_leaves, above_settled, collected_loads}
 use Rattle.zms_top.proofs.LookLemmas.{loads_loaded}
 
@@ -104,7 +104,7 @@ not_live_given old m new lane group seg unit told in_memory same fault low =
 freed_line : (o : Origin) (lane : ℕ) (group : Group) (g : List GateNote) (before : List Noted) (seg : Seg)
     → IsWithin o.units seg → group.0 ≡ open_group o.opened g
     → (kept : List Event) → AreLoads lane 1 kept
-    → FreeLine (ground_of o) lane (copies_at (ground_of o) (Some seg)) (Done group) (step_events g (noting before (record { lane = lane; act = Free group seg }))) kept
+    → FreeLine (shape_of o) lane (copies_at (shape_of o) (Some seg)) (Done group) (step_events g (noting before (record { lane = lane; act = Free group seg }))) kept
 freed_line o lane group g before seg within is kept loads = (
   record {
     inner = at_metaslab 0 (noting before (record { lane = lane; act = Free group seg })) ∷ [];
@@ -116,9 +116,9 @@ freed_line o lane group g before seg within is kept loads = (
 
 not_live_line : (o : Origin) (lane : ℕ) (group : Group) (g : List GateNote) (before : List Noted) (seg : Seg) (unit vdev offset : ℕ)
     → IsWithin o.units seg → group.0 ≡ open_group o.opened g → IsLowestLacking (λ u. IsGrantedBy group.0 (last_act o before u)) seg unit
-    → vdev ≡ 0 → offset ≡ offset_at (ground_of o) 0 unit
+    → vdev ≡ 0 → offset ≡ offset_at (shape_of o) 0 unit
     → (kept : List Event) → AreLoads lane 1 kept
-    → FreeLine (ground_of o) lane (copies_at (ground_of o) (Some seg)) (NotLive vdev offset) (step_events g (look before)) kept
+    → FreeLine (shape_of o) lane (copies_at (shape_of o) (Some seg)) (NotLive vdev offset) (step_events g (look before)) kept
 not_live_line o lane group g before seg unit vdev offset within is low vdev_is offset_is kept loads = (
   record {
     group = group;
@@ -148,25 +148,25 @@ not_live_line o lane group g before seg unit vdev offset within is low vdev_is o
 pub freed_did : (p : Pool) (m : MsState) (gate : GateState) (lane : ℕ) (group : Group) (seg : Seg)
     → IsPool p → 1 ≤ lane → group.0 ≡ open_group p.gate.opened p.gate.notes → StaysButNotes p.metaslab m → StaysButHolds p.gate gate
     → IsGivenBack (origin_of p.metaslab) lane group seg p.metaslab.notes m.notes None
-    → StepDid p lane (FreeLine (ground_of (origin_of p.metaslab)) lane (copies_at (ground_of (origin_of p.metaslab)) (Some seg)) (Done group)) m gate
+    → StepDid p lane (FreeLine (shape_of (origin_of p.metaslab)) lane (copies_at (shape_of (origin_of p.metaslab)) (Some seg)) (Done group)) m gate
 freed_did p m gate lane group seg was some is stays held given =
     let o : Origin = origin_of p.metaslab in
     let open_is : group.0 ≡ open_group p.metaslab.opened p.gate.notes = rw (← was.opened) is in
     let above = above_settled p group was is in
     let leaves = note_leaves o lane (Free group seg) p.metaslab.notes given.before m.notes p.gate.notes (is_set p.record.bytes.items) p.first some was.sound given.loads given.notes given.may tt refl (λ le. omega (arith, le, above)) in
-    step_did p m gate lane (FreeLine (ground_of o) lane (copies_at (ground_of o) (Some seg)) (Done group)) (noting given.before (record { lane = lane; act = Free group seg })) was stays held leaves
+    step_did p m gate lane (FreeLine (shape_of o) lane (copies_at (shape_of o) (Some seg)) (Done group)) (noting given.before (record { lane = lane; act = Free group seg })) was stays held leaves
     (freed_line o lane group p.gate.notes given.before seg given.may.within open_is)
 
 pub not_live_did : (p : Pool) (m : MsState) (gate : GateState) (lane : ℕ) (group : Group) (seg : Seg) (unit vdev offset : ℕ)
     → IsPool p → 1 ≤ lane → group.0 ≡ open_group p.gate.opened p.gate.notes → StaysButNotes p.metaslab m → StaysButHolds p.gate gate → IsWithin p.metaslab.units seg
     → IsGivenBack (origin_of p.metaslab) lane group seg p.metaslab.notes m.notes (Some unit) → vdev ≡ 0 → offset ≡ unit * 2 ^ 12
-    → StepDid p lane (FreeLine (ground_of (origin_of p.metaslab)) lane (copies_at (ground_of (origin_of p.metaslab)) (Some seg)) (NotLive vdev offset)) m gate
+    → StepDid p lane (FreeLine (shape_of (origin_of p.metaslab)) lane (copies_at (shape_of (origin_of p.metaslab)) (Some seg)) (NotLive vdev offset)) m gate
 not_live_did p m gate lane group seg unit vdev offset was some is stays held within given vdev_is offset_is =
     let o : Origin = origin_of p.metaslab in
     let open_is : group.0 ≡ open_group p.metaslab.opened p.gate.notes = rw (← was.opened) is in
     let same : m.notes ≡ given.before = given.notes ∙ append-nil given.before in
     let leaves = look_leaves o lane p.metaslab.notes given.before p.gate.notes (is_set p.record.bytes.items) p.first some was.sound given.loads in
-    let placed : offset ≡ offset_at (ground_of o) 0 unit = rw was.shift (omega (arith, offset_is)) in
-    step_did p m gate lane (FreeLine (ground_of o) lane (copies_at (ground_of o) (Some seg)) (NotLive vdev offset)) (look given.before) was stays held
+    let placed : offset ≡ offset_at (shape_of o) 0 unit = rw was.shift (omega (arith, offset_is)) in
+    step_did p m gate lane (FreeLine (shape_of o) lane (copies_at (shape_of o) (Some seg)) (NotLive vdev offset)) (look given.before) was stays held
     (subst (λ l. StepLeaves o lane (look given.before) p.metaslab.notes l p.gate.notes (is_set p.record.bytes.items) p.first) (sym same) leaves)
     (not_live_line o lane group p.gate.notes given.before seg unit vdev offset within open_is given.may vdev_is placed)

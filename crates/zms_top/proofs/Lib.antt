@@ -1,7 +1,7 @@
 pub mod StepLemmas
 pub mod AllocSteps
 pub mod FreeSteps
-pub mod NamingLemmas
+pub mod NameLemmas
 pub mod FrontLemmas
 pub mod LookLemmas
 pub mod OpenLemmas
@@ -12,7 +12,7 @@ pub mod RecordBits
 pub mod RecordBytes
 pub mod RecordRuns
 pub mod RunLemmas
-pub mod Sounding
+pub mod SoundLemmas
 pub mod SyncSteps
 pub mod TallyLemmas
 pub mod WordLemmas

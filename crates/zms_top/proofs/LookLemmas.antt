@@ -12,7 +12,7 @@ use Rattle.ms_model.specs.declared.notes.Noted.{Noted}
 use Rattle.ms_model.proofs.Histories.{is_loaded-push}
 use Rattle.ms_core.specs.State.{MsState, origin_of, noted, StaysButNotes}
 use Rattle.zms_top.specs.Sound.{Loads, loaded, loads}
-use Rattle.zms_top.specs.Pooling.{IsLook}
+use Rattle.zms_top.specs.Looks.{IsLook}
 
 pub stays_origin : (old new : MsState) → StaysButNotes old new → origin_of new ≡ origin_of old
 stays_origin old new e = ap origin_of e

@@ -14,9 +14,9 @@ use Rattle.ms_core.specs.State.{origin_of}
 use Rattle.zms_dev.specs.Disk.{DiskState, Tells, bytes_of}
 use Rattle.zms_top.specs.Record.{is_set, IsReadFrom}
 use Rattle.zms_top.specs.Sound.{IsSound}
-use Rattle.zms_top.specs.Opening.{IsOpened, IsAssembled}
+use Rattle.zms_top.specs.FreshPool.{IsOpened, IsAssembled}
 use Rattle.zms_top.specs.declared.pool.Pool.{Pool}
-use Rattle.zms_top.specs.declared.record.Opened.{Opened}
+use Rattle.zms_top.specs.declared.first_record.Opened.{Opened}
 
 -- nothing was done yet, and the bits are the base
 pub sound_none : (o : Origin) (h : List Noted) (g : List GateNote) (set : ℕ → Bool) → h ≡ [] → g ≡ []

@@ -6,7 +6,7 @@ use Rattle.ms_model.specs.Origin.{Origin}
 use Rattle.ms_core.specs.State.{MsState, origin_of, StaysButNotes}
 use Rattle.zms_top.specs.Record.{is_set}
 use Rattle.zms_top.specs.Sound.{IsSound}
-use Rattle.zms_top.specs.Acting.{IsPool}
+use Rattle.zms_top.specs.Pools.{IsPool}
 use Rattle.zms_top.specs.declared.pool.Pool.{Pool}
 
 pub pool_grows : (p q : Pool) → IsPool p → StaysButNotes p.metaslab q.metaslab → q.gate.opened ≡ p.gate.opened → q.base ≡ p.base → q.record.units ≡ p.record.units

@@ -19,11 +19,12 @@ use Rattle.ms_core.specs.State.{MsState, origin_of, settled_of}
 use Rattle.txg_gate.specs.Closings.{closings_of}
 use Rattle.zms_dev.specs.Causes.{one_more}
 use Rattle.zms_dev.specs.Disk.{DiskState, Tells}
+use Rattle.zms_dev.specs.Runs.{Spares}
 use Rattle.zms_top.specs.Answers.{Replied, paired, first_with, synced_after, IsOfAlloc, IsOfFree}
-use Rattle.zms_top.specs.Sound.{Tour, ground_of, HoldsGroup}
-use Rattle.zms_top.specs.Backing.{Lines, WhatLine, AreIntervals}
-use Rattle.zms_top.specs.Acting.{Acted, IsPool, IsKept, LeavesSettled}
-use Rattle.zms_top.specs.Running.{HasRun, answers_of}
+use Rattle.zms_top.specs.Sound.{Tour, shape_of, HoldsGroup, Spared}
+use Rattle.zms_top.specs.Lines.{Lines, WhatLine, AreIntervals}
+use Rattle.zms_top.specs.Pools.{Acted, IsPool, IsKept, IsHalfKept, LeavesSettled}
+use Rattle.zms_top.specs.Runs.{HasRun, answers_of}
 use Rattle.zms_top.specs.Ends.{is_device}
 use Rattle.cmd_text.specs.declared.script.Command.{Command}
 use Rattle.zms_top.specs.declared.pool.Pool.{Pool}
@@ -113,10 +114,6 @@ faults_after None now NoName start low high is was are same = rw is (are ∙ was
 faults_after None now (NotLive _ _) start low high is was are same = rw is (are ∙ was)
 faults_after None now (Suspended _) start low high is was are same = rw is (are ∙ was)
 
-pub one_or_none : (first : Option First) (start now : ℕ) → now ≡ cond (is_some first) (one_more start) start → (now ≡ start) ⊎ (now ≡ one_more start)
-one_or_none None start now is = inl is
-one_or_none (Some f) start now is = inr is
-
 -- a pool's record has as many units as its metaslab
 pub same_units : (p q : Pool) (done : List Replied) → IsPool p → HasRun p q done → q.record.units ≡ p.record.units
 same_units p q done was run = run.pool.record_units ∙ (ap (λ (m : MsState). m.units) run.stays ∙ sym was.record_units)
@@ -182,6 +179,53 @@ kept_both o h i j r s t first then = record {
   stored = λ lt c may. stored_later o h i j r s t first then lt c may (above_or_same (settled_group o i) (settled_group o j) then.rises);
 }
 
+-- a command that leaves what is settled, and the device
+
+pub kept_more : (p q r : Pool) (start mid : DiskState) → origin_of q.metaslab ≡ origin_of p.metaslab
+    → IsKept (origin_of p.metaslab) p.metaslab.notes q.metaslab.notes start mid → LeavesSettled q r → IsKept (origin_of p.metaslab) p.metaslab.notes r.metaslab.notes start mid
+kept_more p q r start mid origin first leaves =
+    kept_both (origin_of p.metaslab) p.metaslab.notes q.metaslab.notes r.metaslab.notes start mid mid first
+    (subst (λ (o : Origin). IsKept o q.metaslab.notes r.metaslab.notes mid mid) origin (leaves_kept q r mid leaves first.tells))
+
+-- a commit that failed, behind commands none of which did
+half_after : (o : Origin) (h i j : List Noted) (r s t : DiskState) → IsKept o h i r s → settled_group o j ≡ settled_group o i
+    → ((u : ℕ) → held o j (settled_group o i) u ≡ held o i (settled_group o i) u) → Spares (Spared o) s t → IsHalfKept o h j r t
+half_after o h i j r s t first same units spares = record {
+  tells = spares.tells;
+  unchanged = λ e c may. let from = spares.images c may in (from.0, first.unchanged (omega (arith, e, same)) from.0 from.1, from.2);
+  stored = λ lt c may. let from = spares.images c may in (from.0, holds_same from.0 o i j same units (first.stored (omega (arith, lt, same)) from.0 from.1), from.2);
+}
+
+-- a command behind a commit that failed
+half_later : (o : Origin) (h i j : List Noted) (r s : DiskState) → IsHalfKept o h i r s → settled_group o j ≡ settled_group o i
+    → ((u : ℕ) → held o j (settled_group o i) u ≡ held o i (settled_group o i) u) → IsHalfKept o h j r s
+half_later o h i j r s first same units = record {
+  tells = first.tells;
+  unchanged = λ e c may. first.unchanged (omega (arith, e, same)) c may;
+  stored = λ lt c may. let from = first.stored (omega (arith, lt, same)) c may in (from.0, holds_same from.0 o i j same units from.1, from.2);
+}
+
+pub half_more : (p q r : Pool) (start mid end : DiskState) → origin_of q.metaslab ≡ origin_of p.metaslab
+    → (q.first ≡ None → IsKept (origin_of p.metaslab) p.metaslab.notes q.metaslab.notes start mid)
+    → (IsSome q.first → IsHalfKept (origin_of p.metaslab) p.metaslab.notes q.metaslab.notes start mid)
+    → LeavesSettled q r → (Tells mid → Spares (Spared (origin_of p.metaslab)) mid end) → (IsSome q.first → end ≡ mid)
+    → IsHalfKept (origin_of p.metaslab) p.metaslab.notes r.metaslab.notes start end
+half_more p q r start mid end origin kept half leaves spares same = by_first q.first kept half same where
+  o : Origin
+  o = origin_of p.metaslab
+
+  group : settled_group o r.metaslab.notes ≡ settled_group o q.metaslab.notes
+  group = subst (λ (x : Origin). settled_group x r.metaslab.notes ≡ settled_group x q.metaslab.notes) origin leaves.group
+
+  units : (u : ℕ) → held o r.metaslab.notes (settled_group o q.metaslab.notes) u ≡ held o q.metaslab.notes (settled_group o q.metaslab.notes) u
+  units u = subst (λ (x : Origin). held x r.metaslab.notes (settled_group x q.metaslab.notes) u ≡ held x q.metaslab.notes (settled_group x q.metaslab.notes) u) origin (leaves.units u)
+
+  by_first : (first : Option First) → (first ≡ None → IsKept o p.metaslab.notes q.metaslab.notes start mid) → (IsSome first → IsHalfKept o p.metaslab.notes q.metaslab.notes start mid)
+      → (IsSome first → end ≡ mid) → IsHalfKept o p.metaslab.notes r.metaslab.notes start end
+  by_first None kept half same = let was = kept refl in half_after o p.metaslab.notes q.metaslab.notes r.metaslab.notes start mid end was group units (spares was.tells)
+  by_first (Some f) kept half same =
+      subst (λ d. IsHalfKept o p.metaslab.notes r.metaslab.notes start d) (sym (same refl)) (half_later o p.metaslab.notes q.metaslab.notes r.metaslab.notes start mid (half refl) group units)
+
 -- one command more
 
 paired_both : (cs : List Command) (rs : List Reply) (c : Command) (r : Reply) → length cs ≡ length rs → paired (cs ++ c ∷ []) (rs ++ r ∷ []) ≡ paired cs rs ++ record { command = c; reply = r } ∷ []
@@ -214,14 +258,14 @@ run_none p was idle = record {
 }
 
 pub run_more : (p q r : Pool) (done : List Replied) (c : Command) (answer : Answer) → HasRun p q done → c.lane ≡ 1
-    → Acted q r c.lane (WhatLine (ground_of (origin_of q.metaslab)) c.lane done c.what answer) → r.first ≡ first_with q.first answer
+    → Acted q r c.lane (WhatLine (shape_of (origin_of q.metaslab)) c.lane done c.what answer) → r.first ≡ first_with q.first answer
     → settled_of r.metaslab ≡ synced_after (settled_of q.metaslab) c.what answer
     → HasRun p r (done ++ record { command = c; reply = record { lane = c.lane; answer = answer } } ∷ [])
 run_more p q r done c answer run lane acted first synced =
     let next : Replied = record { command = c; reply = record { lane = c.lane; answer = answer } } in
     let origin : origin_of q.metaslab ≡ origin_of p.metaslab = ap origin_of run.stays in
-    let what : WhatLine (ground_of (origin_of p.metaslab)) c.lane done c.what answer acted.events acted.kept =
-    subst (λ (o : Origin). WhatLine (ground_of o) c.lane done c.what answer acted.events acted.kept) origin acted.line_is in
+    let what : WhatLine (shape_of (origin_of p.metaslab)) c.lane done c.what answer acted.events acted.kept =
+    subst (λ (o : Origin). WhatLine (shape_of o) c.lane done c.what answer acted.events acted.kept) origin acted.line_is in
     let tour : Tour 1 acted.events acted.kept q.metaslab.notes r.metaslab.notes q.gate.notes r.gate.notes =
     subst (λ l. Tour l acted.events acted.kept q.metaslab.notes r.metaslab.notes q.gate.notes r.gate.notes) lane acted.tour in
     let rises : closings_of 1 r.gate.notes ≤ closings_of 1 q.gate.notes + 1 = subst (λ l. closings_of l r.gate.notes ≤ closings_of l q.gate.notes + 1) lane acted.rises in

@@ -1,5 +1,5 @@
 -- A step of a lane at the metaslab, under a hold of the open group: it leaves the pool sound, and is a part of the lane's events.
-use Rattle.std.proofs.Common.{◌≡◌, ◌≢◌, ℕ, ◌<◌, ◌≤◌, Bool, false, cond, Option, List, [], ◌∷◌, ◌++◌, zero, suc, refl, sym, ◌∙◌, ap, subst, arith}
+use Rattle.std.proofs.Common.{◌≡◌, ◌≢◌, ℕ, ◌<◌, ◌≤◌, Bool, false, cond, Option, List, [], ◌∷◌, ◌++◌, zero, suc, inl, inr, refl, sym, ◌∙◌, ap, subst, arith}
 use Rattle.std.specs.Prelude.{◌==◌}
 use Rattle.std.proofs.Math.Dec.{eqb-suc-zero}
 use Rattle.std.proofs.lemmas.Bool.{ne_eqb}
@@ -25,12 +25,12 @@ use Rattle.lane_steps.proofs.Steps.{quiet_none, quiet_both, follows_both}
 use Rattle.ms_core.specs.State.{Memory, MsState, origin_of, settled_of, StaysButNotes}
 use Rattle.txg_gate.specs.GateState.{GateState}
 use Rattle.zms_top.specs.Record.{is_set}
-use Rattle.zms_top.specs.Backing.{AreLoads}
-use Rattle.zms_top.specs.Acting.{Acted, IsPool, LeavesSettled}
+use Rattle.zms_top.specs.Lines.{AreLoads}
+use Rattle.zms_top.specs.Pools.{Acted, IsPool, LeavesSettled}
 use Rattle.zms_top.specs.declared.pool.Pool.{Pool}
-use Rattle.zms_top.specs.Sound.{IsSound, Loads, loaded, loads}
+use Rattle.zms_top.specs.Sound.{IsSound, Loads, loaded, loads, MayLoad}
 use Rattle.ms_model.proofs.Histories.{LeavesGroups, settled_note, collected_note}
-use Rattle.zms_top.proofs.Sounding.{sound_note}
+use Rattle.zms_top.proofs.SoundLemmas.{sound_note}
 
 -- a note of the keeper's is quiet for a lane
 pub quiet_keeper : (lane : ℕ) (h : List Noted) (by : ℕ) (act : Act) → right_of (record { lane = by; act = act }) ≡ 0 → 1 ≤ lane
@@ -68,6 +68,20 @@ held_loads o lane h j t u (loads is) = held-quiet o h (record { lane = lane; act
 pub collected_loads : (o : Origin) (lane : ℕ) (h j : List Noted) → Loads lane h j → collected_group o j ≡ collected_group o h
 collected_loads o lane h j (loaded is) = refl
 collected_loads o lane h j (loads is) = collected_note o h lane Load tt
+
+-- a journal that stayed, or took a load, leaves what is settled
+pub may_load_leaves : (p q : Pool) (lane : ℕ) → MayLoad lane p.metaslab.notes q.metaslab.notes → LeavesSettled p q
+may_load_leaves p q lane (inl same) = record {
+  group = ap (settled_group (origin_of p.metaslab)) same;
+  units = λ u. ap (λ l. held (origin_of p.metaslab) l (settled_of p.metaslab) u) same;
+}
+may_load_leaves p q lane (inr in_memory) = record {
+  group = settled_loads (origin_of p.metaslab) lane p.metaslab.notes q.metaslab.notes in_memory;
+  units = λ u. held_loads (origin_of p.metaslab) lane p.metaslab.notes q.metaslab.notes (settled_of p.metaslab) u in_memory;
+}
+
+pub same_leaves : (p q : Pool) → q.metaslab.notes ≡ p.metaslab.notes → LeavesSettled p q
+same_leaves p q same = may_load_leaves p q 1 (inl same)
 
 -- what the keeper did for a lane at the one metaslab: at most a load
 pub record LoadsKept (lane : ℕ) (h new : List Noted) : Type 0 where
@@ -217,7 +231,7 @@ step_did p m g lane line step was stays held leaves is =
         stays = refl;
         rises = omega arith;
       };
-      leaves = record { group = leaves.group_stays; units = leaves.held_stays; first = refl };
+      leaves = record { group = leaves.group_stays; units = leaves.held_stays };
     }))
 
 -- the open group lies above the settled one

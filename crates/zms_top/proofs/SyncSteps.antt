@@ -1,6 +1,6 @@
 -- A sync, from what its parts say.
-use Rattle.std.proofs.Common.{◌≡◌, ℕ, ◌+◌, ◌<◌, ◌≤◌, false, cond, Some, None, List, [], ◌∷◌, ◌++◌, zero, suc, refl, sym, ◌∙◌, ap, subst, arith}
-use Rattle.std.specs.Prelude.{◌==◌, not, ◌&&◌, ◌||◌}
+use Rattle.std.proofs.Common.{◌≡◌, ℕ, ◌+◌, ◌<◌, ◌≤◌, false, cond, Option, Some, None, List, [], ◌∷◌, ◌++◌, zero, suc, refl, sym, ◌∙◌, ap, subst, arith}
+use Rattle.std.specs.Prelude.{◌==◌, not, ◌&&◌, ◌||◌, IsSome}
 use Rattle.std.specs.List.{Contains}
 use Rattle.std.proofs.lemmas.List.{append-nil}
 use Rattle.std.proofs.Math.Dec.{eqb-suc-zero}
@@ -9,7 +9,7 @@ use Rattle.zms_units.specs.declared.faults.First.{First}
 use Rattle.zms_units.specs.declared.faults.First.TheVariants.{Device as FirstDevice}
 use Rattle.zms_units.specs.declared.segments.Group.{Group}
 use Rattle.ms_model.specs.Origin.{Origin}
-use Rattle.ms_model.specs.Units.{settled_group, collected_group}
+use Rattle.ms_model.specs.Units.{held, settled_group, collected_group}
 use Rattle.ms_model.specs.Gains.{is_gained, is_given}
 use Rattle.ms_model.specs.Gates.{open_group, synced_group}
 use Rattle.ms_model.specs.Steps.{look, noting, Quiet}
@@ -19,6 +19,7 @@ use Rattle.ms_model.specs.declared.notes.Act.TheVariants.{Collect, Settle}
 use Rattle.ms_model.specs.declared.notes.Noted.{Noted}
 use Rattle.ms_model.specs.declared.notes.GateNote.{GateNote}
 use Rattle.ms_model.specs.declared.notes.GateNote.TheVariants.{Closed, Settled}
+use Rattle.ms_model.proofs.Held.{held-quiet}
 use Rattle.ms_model.proofs.Histories.{settled_group-push, collected_group-push}
 use Rattle.lane_steps.proofs.Steps.{quiet_none, quiet_both}
 use Rattle.ms_core.specs.State.{MsState, origin_of, settled_of, collected_of, StaysButNotes}
@@ -28,23 +29,23 @@ use Rattle.zms_dev.specs.Causes.{one_more}
 use Rattle.zms_dev.specs.Disk.{DiskState, Tells}
 use Rattle.txg_gate.specs.GateState.{GateState}
 use Rattle.zms_top.specs.Record.{IsRecord, IsStored, is_set}
-use Rattle.zms_top.specs.Sound.{IsSound, ground_of, HoldsGroup}
+use Rattle.zms_top.specs.Sound.{IsSound, shape_of, HoldsGroup}
 use Rattle.zms_top.specs.Answers.{first_with, synced_after}
 use Rattle.cmd_text.specs.declared.script.What.TheVariants.{Sync}
-use Rattle.zms_top.specs.Backing.{SyncLine, SeenSettled, NotedAtEach, AreIntervals}
-use Rattle.zms_top.specs.Acting.{Acted, IsPool, IsClosed, IsCommitted, IsKept}
+use Rattle.zms_top.specs.Lines.{SyncLine, SeenSettled, NotedAtEach, Collects, AreIntervals}
+use Rattle.zms_top.specs.Pools.{Acted, IsPool, IsClosed, IsCommitted, IsKept, LeavesSettled}
 use Rattle.zms_top.specs.declared.replies.Answer.{Answer}
 use Rattle.zms_top.specs.declared.pool.Pool.{Pool}
 use Rattle.zms_top.specs.declared.replies.Answer.TheVariants.{Done, Device, Suspended}
 use Rattle.ms_model.proofs.GateGroups.{open_group-push, synced_group-push}
-use Rattle.zms_top.proofs.Sounding.{sound_collected, sound_settled}
+use Rattle.zms_top.proofs.SoundLemmas.{sound_collected, sound_settled}
 use Rattle.zms_top.proofs.StepLemmas.{quiet_keeper, quiet_other, nothing_did}
 use Rattle.zms_top.proofs.PoolLemmas.{pool_grows}
 
 -- nothing was done, and the kept fault is told
 pub suspended_did : (p : Pool) (lane : ℕ) (fault : First) → IsPool p → p.first ≡ Some fault
-    → Acted p p lane (SyncLine (ground_of (origin_of p.metaslab)) lane p.first (Suspended fault))
-suspended_did p lane fault was is = nothing_did p lane (SyncLine (ground_of (origin_of p.metaslab)) lane p.first (Suspended fault)) was (rw is (refl, (refl, refl)))
+    → Acted p p lane (SyncLine (shape_of (origin_of p.metaslab)) lane p.first (Suspended fault))
+suspended_did p lane fault was is = nothing_did p lane (SyncLine (shape_of (origin_of p.metaslab)) lane p.first (Suspended fault)) was (rw is (refl, (refl, refl)))
 
 -- a settling is quiet for a lane
 settling_quiet : (lane : ℕ) (g : List GateNote) (group : Group) → 1 ≤ lane → Quiet gate_right lane g (g ++ Settled group ∷ [])
@@ -53,8 +54,39 @@ settling_quiet lane g group some = record { more = Settled group ∷ []; is = re
   other zero some = absurd (omega arith)
   other (suc n) some = eqb-suc-zero n
 
-contains_last : {A : Type 0} (xs : List A) (x : A) → Contains (xs ++ x ∷ []) x
+pub contains_last : {A : Type 0} (xs : List A) (x : A) → Contains (xs ++ x ∷ []) x
 contains_last xs x = Contains-append_right xs (x ∷ []) x (0, omega arith, refl)
+
+-- the keeper's part of a closing, at the one metaslab
+collects : (lane : ℕ) (group : Group) (g : List GateNote) (h : List Noted) → Contains g (Closed lane group)
+    → Collects lane group 1 (at_gate (look g) ∷ (at_metaslab 0 (noting h (record { lane = lane; act = Collect group })) ∷ []))
+collects lane group g h seen = record {
+  seen = g;
+  closed = seen;
+  notes = at_metaslab 0 (noting h (record { lane = lane; act = Collect group })) ∷ [];
+  noted = NotedAtEach.more 0 [] h NotedAtEach.none;
+  whole = refl;
+}
+
+-- a group that was collected and not settled leaves what is settled
+collected_leaves : (p q : Pool) (lane : ℕ) (group : Group) → q.metaslab.notes ≡ p.metaslab.notes ++ record { lane = lane; act = Collect group } ∷ [] → LeavesSettled p q
+collected_leaves p q lane group notes =
+    let o : Origin = origin_of p.metaslab in
+    let collect : Noted = record { lane = lane; act = Collect group } in
+    record {
+      group = ap (settled_group o) notes ∙ settled_group-push o p.metaslab.notes collect;
+      units = λ u. ap (λ l. held o l (settled_of p.metaslab) u) notes ∙ held-quiet o p.metaslab.notes collect (settled_of p.metaslab) u (λ x. x);
+    }
+
+-- so does a sync after which a fault is kept
+pub sync_leaves : (p mid q : Pool) (lane : ℕ) (group : Group) (low high : ℕ) (answer : Answer)
+    → p.first ≡ None → IsClosed p mid lane group → IsCommitted mid q lane group low high answer → IsSome q.first → LeavesSettled p q
+sync_leaves p mid q lane group low high answer idle closed (IsCommitted.settled is gate notes stays first base units bits same) some = absurd (never q.first (first ∙ (closed.first ∙ idle)) some) where
+  never : (x : Option First) → x ≡ None → IsSome x → ⊥
+  never None none some = cc
+  never (Some f) none some = cc
+sync_leaves p mid q lane group low high answer idle closed (IsCommitted.failed is once gate metaslab first base units bits) some =
+    collected_leaves p q lane group (ap (λ (m : MsState). m.notes) metaslab ∙ closed.notes)
 
 -- what stands after a group was closed and collected
 pub record ClosedFacts (p q : Pool) (group : Group) : Type 0 where
@@ -92,7 +124,7 @@ pub failed_did : (p q : Pool) (lane : ℕ) (group : Group) (low high : ℕ)
     → q.gate.opened ≡ p.gate.opened → q.gate.notes ≡ p.gate.notes ++ Closed lane group ∷ []
     → q.metaslab.notes ≡ p.metaslab.notes ++ record { lane = lane; act = Collect group } ∷ [] → StaysButNotes p.metaslab q.metaslab
     → q.base ≡ p.base → q.record.units ≡ p.record.units → q.first ≡ Some (FirstDevice low high) → high ≡ one_more low
-    → Acted p q lane (SyncLine (ground_of (origin_of p.metaslab)) lane p.first (Device low high))
+    → Acted p q lane (SyncLine (shape_of (origin_of p.metaslab)) lane p.first (Device low high))
 failed_did p q lane group low high was idle some is opened gate notes stays base units fault once =
     let o : Origin = origin_of p.metaslab in
     let is_open : group.0 ≡ open_group p.metaslab.opened p.gate.notes = rw (← was.opened) is in
@@ -101,21 +133,23 @@ failed_did p q lane group low high was idle some is opened gate notes stays base
     rw (fault, notes, gate) (sound_collected o p.metaslab.notes p.gate.notes (is_set p.record.bytes.items) (is_set q.record.bytes.items) lane group (FirstDevice low high) sound_was is_open) in
     let quiet : Quiet right_of lane p.metaslab.notes q.metaslab.notes = rw notes (quiet_keeper lane p.metaslab.notes lane (Collect group) refl some) in
     let after : Quiet gate_right lane (p.gate.notes ++ Closed lane group ∷ []) q.gate.notes = rw gate (quiet_none gate_right lane (p.gate.notes ++ Closed lane group ∷ [])) in
+    let still : Quiet gate_right 0 (q.gate.notes ++ []) q.gate.notes = subst (λ l. Quiet gate_right 0 l q.gate.notes) (sym (append-nil q.gate.notes)) (quiet_none gate_right 0 q.gate.notes) in
+    let seen : Contains q.gate.notes (Closed lane group) = rw gate (contains_last p.gate.notes (Closed lane group)) in
     let rises : closings_of lane q.gate.notes ≤ closings_of lane p.gate.notes + 1 = rw gate (closings_push lane p.gate.notes (Closed lane group)) in
     record {
       events = at_gate (noting p.gate.notes (Closed lane group)) ∷ [];
-      kept = at_metaslab 0 (noting p.metaslab.notes (record { lane = lane; act = Collect group })) ∷ [];
+      kept = at_gate (look q.gate.notes) ∷ (at_metaslab 0 (noting p.metaslab.notes (record { lane = lane; act = Collect group })) ∷ []);
       tour = record {
         metaslab = quiet;
         gate = (quiet_none gate_right lane p.gate.notes, (refl, after));
         keeper = rw notes (quiet_none right_of 0 p.metaslab.notes, (refl, quiet_none right_of 0 (p.metaslab.notes ++ record { lane = lane; act = Collect group } ∷ [])));
-        keeper_gate = rw gate (quiet_other gate_right 0 p.gate.notes (Closed lane group) (λ e. omega (arith, some, e)));
+        keeper_gate = (rw gate (quiet_other gate_right 0 p.gate.notes (Closed lane group) (λ e. omega (arith, some, e))), (tt, still));
         others = record {
           metaslab = λ other low apart. rw notes (quiet_keeper other p.metaslab.notes lane (Collect group) refl low);
           gate = λ other low apart. rw gate (quiet_other gate_right other p.gate.notes (Closed lane group) apart);
         };
       };
-      line_is = rw idle (record { before = p.gate.notes; group = group; collected = NotedAtEach.more 0 [] p.metaslab.notes NotedAtEach.none; is_open = is_open; once = once; whole = refl });
+      line_is = rw idle (record { before = p.gate.notes; group = group; collected = collects lane group q.gate.notes p.metaslab.notes seen; is_open = is_open; once = once; whole = refl });
       pool = pool_grows p q was stays opened base units sound_now;
       stays = stays;
       rises = rises;
@@ -128,7 +162,7 @@ pub done_did : (p q : Pool) (lane : ℕ) (group : Group)
     → q.metaslab.notes ≡ (p.metaslab.notes ++ record { lane = lane; act = Collect group } ∷ []) ++ record { lane = lane; act = Settle group } ∷ [] → StaysButNotes p.metaslab q.metaslab
     → q.base ≡ p.base → q.record.units ≡ p.record.units → q.first ≡ None
     → ((u : ℕ) → u < p.metaslab.units → is_set q.record.bytes.items u ≡ (not (is_given group.0 p.metaslab.notes u) && (is_gained group.0 p.metaslab.notes u || is_set p.record.bytes.items u)))
-    → Acted p q lane (SyncLine (ground_of (origin_of p.metaslab)) lane p.first (Done group))
+    → Acted p q lane (SyncLine (shape_of (origin_of p.metaslab)) lane p.first (Done group))
 done_did p q lane group was idle some is opened gate notes stays base units first bits =
     let o : Origin = origin_of p.metaslab in
     let collect : Noted = record { lane = lane; act = Collect group } in
@@ -144,16 +178,17 @@ done_did p q lane group was idle some is opened gate notes stays base units firs
     let still : Quiet right_of lane (q.metaslab.notes ++ []) q.metaslab.notes = subst (λ l. Quiet right_of lane l q.metaslab.notes) (sym (append-nil q.metaslab.notes)) (quiet_none right_of lane q.metaslab.notes) in
     let settling : Quiet gate_right lane closed q.gate.notes = rw gate (settling_quiet lane closed group some) in
     let gate_still : Quiet gate_right lane (q.gate.notes ++ []) q.gate.notes = subst (λ l. Quiet gate_right lane l q.gate.notes) (sym (append-nil q.gate.notes)) (quiet_none gate_right lane q.gate.notes) in
+    let closed_still : Quiet gate_right 0 (closed ++ []) closed = subst (λ l. Quiet gate_right 0 l closed) (sym (append-nil closed)) (quiet_none gate_right 0 closed) in
     let seen : Contains q.metaslab.notes settle = rw notes (contains_last mid settle) in
     let gate_seen : Contains q.gate.notes (Settled group) = rw gate (contains_last closed (Settled group)) in
     let rises : closings_of lane q.gate.notes ≤ closings_of lane p.gate.notes + 1 =
     rw (gate, closings_settled lane closed group some) (closings_push lane p.gate.notes (Closed lane group)) in
     record {
       events = at_gate (noting p.gate.notes (Closed lane group)) ∷ ((at_metaslab 0 (look q.metaslab.notes) ∷ []) ++ (at_gate (look q.gate.notes) ∷ []));
-      kept = at_metaslab 0 (noting p.metaslab.notes collect) ∷ (at_metaslab 0 (noting mid settle) ∷ (at_gate (noting closed (Settled group)) ∷ []));
+      kept = at_gate (look closed) ∷ (at_metaslab 0 (noting p.metaslab.notes collect) ∷ (at_metaslab 0 (noting mid settle) ∷ (at_gate (noting closed (Settled group)) ∷ [])));
       tour = record {
         keeper = rw notes (quiet_none right_of 0 p.metaslab.notes, (refl, (quiet_none right_of 0 mid, (refl, quiet_none right_of 0 (mid ++ settle ∷ [])))));
-        keeper_gate = rw gate (quiet_other gate_right 0 p.gate.notes (Closed lane group) (λ e. omega (arith, some, e)), (refl, quiet_none gate_right 0 (closed ++ Settled group ∷ [])));
+        keeper_gate = rw gate (quiet_other gate_right 0 p.gate.notes (Closed lane group) (λ e. omega (arith, some, e)), (tt, (closed_still, (refl, quiet_none gate_right 0 (closed ++ Settled group ∷ [])))));
         metaslab = (quiet, (tt, still));
         gate = (quiet_none gate_right lane p.gate.notes, (refl, (settling, (tt, gate_still))));
         others = record {
@@ -171,8 +206,8 @@ done_did p q lane group was idle some is opened gate notes stays base units firs
         after = q.gate.notes;
         gate_settled = gate_seen;
         whole = refl;
-        collects = at_metaslab 0 (noting p.metaslab.notes collect) ∷ [];
-        collected = NotedAtEach.more 0 [] p.metaslab.notes NotedAtEach.none;
+        collects = at_gate (look closed) ∷ (at_metaslab 0 (noting p.metaslab.notes collect) ∷ []);
+        collected = collects lane group closed p.metaslab.notes (contains_last p.gate.notes (Closed lane group));
         settles = at_metaslab 0 (noting mid settle) ∷ [];
         settled_each = NotedAtEach.more 0 [] mid NotedAtEach.none;
         gate_before = closed;
@@ -194,7 +229,7 @@ stored_holds q group c was idle settled stored = record {
 
 -- a sync that closed a group, whatever the device did
 pub record SyncDid (p q : Pool) (lane low high : ℕ) (answer : Answer) : Type 0 where
-  pub acted : Acted p q lane (SyncLine (ground_of (origin_of p.metaslab)) lane p.first answer)
+  pub acted : Acted p q lane (SyncLine (shape_of (origin_of p.metaslab)) lane p.first answer)
   pub first : q.first ≡ first_with p.first answer
   pub intervals : AreIntervals low high (answer ∷ [])
   pub synced : settled_of q.metaslab ≡ synced_after (settled_of p.metaslab) Sync answer

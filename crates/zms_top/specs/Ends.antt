@@ -1,6 +1,6 @@
 -- How a call ends: each way, with its cause.
 use Rattle.std.specs.Prelude.{◌≡◌, ℕ, ◌*◌, ◌<◌, ◌≤◌, Bool, true, false, ◌⊎◌, Option, Some, None, IsSome, Result, Ok, Err, List, [], ◌∷◌, length, take, drop, replicate}
-use Rattle.std.specs.List.{list_any}
+use Rattle.std.specs.List.{All, list_any}
 use Rattle.zms_units.specs.declared.segments.Group.{Group}
 use Rattle.zms_units.specs.declared.places.Class.TheVariants.{Normal}
 use Rattle.ms_model.specs.Events.{Event}
@@ -9,12 +9,13 @@ use Rattle.ms_model.specs.Units.{settled_group}
 use Rattle.ms_model.specs.Legal.{IsLegal}
 use Rattle.zms_units.specs.Runs.{units_in}
 use Rattle.ms_model.specs.Counts.{live_units, deferred_units, vacant_units}
+use Rattle.ms_model.specs.Parts.{HaveLanes, IsByLane}
 use Rattle.ms_model.specs.Gates.{synced_group, IsGateLegal}
 use Rattle.ms_model.specs.declared.journals.MsJournal.{MsJournal}
 use Rattle.ms_model.specs.declared.journals.Journals.{Journals}
 use Rattle.zms_dev.specs.Causes.{one_more}
 use Rattle.zms_dev.specs.Disk.{DiskState, Tells, bytes_of}
-use Rattle.zms_dev.specs.Prints.{Prints}
+use Rattle.zms_dev.specs.Prints.{HandsOn}
 use Rattle.zms_dev.specs.Bytes.{Outside}
 use Rattle.zms_dev.specs.Runs.{Spares, Untouched}
 use Rattle.zms_dev.specs.Stream.{SourceState, SinkState, told}
@@ -26,9 +27,9 @@ use Rattle.zms_top.specs.Texts.{run_text, created_text}
 use Rattle.trace_text.specs.Traces.{metaslab_trace_text}
 use Rattle.zms_top.specs.World.{World}
 use Rattle.zms_top.specs.Writes.{WritesBoth}
-use Rattle.zms_top.specs.Backing.{AreBacked, AreKept, AreIntervals}
-use Rattle.zms_top.specs.Sound.{ground_of, IsRecorded}
-use Rattle.zms_top.specs.Running.{answers_of}
+use Rattle.zms_top.specs.Lines.{AreBacked, AreKept, AreIntervals}
+use Rattle.zms_top.specs.Sound.{first_id, shape_of, Spared, IsRecorded, IsHalfRecorded}
+use Rattle.zms_top.specs.Runs.{answers_of}
 use Rattle.zms_top.specs.declared.tally.Tally.{Tally}
 use Rattle.cmd_text.specs.declared.script.Command.{Command}
 use Rattle.zms_top.specs.declared.replies.Answer.{Answer}
@@ -89,12 +90,14 @@ pub record AreShipped (o : Origin) (journals : Journals) (lists : RunLists) (jou
   pub only : journals.metaslabs ≡ journal ∷ []
   pub no_class : journals.classes ≡ []
   pub no_keeper : journals.keeper ≡ []
-  pub id : journal.id ≡ record { vdev = 0; index = 0 }
+  pub id : journal.id ≡ first_id
   pub units : journal.units ≡ o.units
   pub ashift : journal.ashift ≡ o.ashift
   pub held : journal.held ≡ units_in o.base o.units
   pub legal : IsLegal o journal.notes
   pub gate_legal : IsGateLegal o.opened lists.gate
+  pub lanes : HaveLanes journal.notes
+  pub gate_lanes : All IsByLane lists.gate
   pub device_notes : lists.device_notes ≡ replicate 16 []
 
 -- the totals of the one metaslab, by its journal
@@ -122,8 +125,8 @@ end_status false (Err _) = WriteFault
 pub record LanesDid (commands : List Command) (old new : World) (o : Origin) (journal : MsJournal) (journals : Journals) (lists : RunLists) (status : Status) : Type 0 where
   pub each : length lists.replies ≡ length commands
   pub kept : List Event
-  pub backed : AreBacked (ground_of o) 1 (paired commands lists.replies) kept lists.gate (journal.notes ∷ [])
-  pub others : (lane : ℕ) → 2 ≤ lane → AreBacked (ground_of o) lane [] [] lists.gate (journal.notes ∷ [])
+  pub backed : AreBacked (shape_of o) 1 (paired commands lists.replies) kept lists.gate (journal.notes ∷ [])
+  pub others : (lane : ℕ) → 2 ≤ lane → AreBacked (shape_of o) lane [] [] lists.gate (journal.notes ∷ [])
   pub keeper : AreKept kept lists.gate (journal.notes ∷ [])
   pub settled : synced_group o.opened lists.gate ≡ settled_group o journal.notes
   pub synced : settled_group o journal.notes ≡ last_synced o.opened (paired commands lists.replies)
@@ -136,7 +139,8 @@ pub record LanesDid (commands : List Command) (old new : World) (o : Origin) (jo
   pub writes : WritesBoth old.out new.out old.trace new.trace (run_text (paired commands lists.replies) (tally ∷ []) group.0) (metaslab_trace_text journals) written
   pub status_is : status ≡ end_status (any_device lists.replies) written
   pub device : any_device lists.replies ≡ false → Tells old.disk → IsRecorded old.disk new.disk o journal.notes
-  pub spares : Tells old.disk → Spares (Outside 0 (record_len o.units)) old.disk new.disk
+  pub suspended : any_device lists.replies ≡ true → Tells old.disk → IsHalfRecorded old.disk new.disk o journal.notes
+  pub spares : Tells old.disk → Spares (Spared o) old.disk new.disk
 
 -- lanes did not begin: the device was at most read, nothing was written, and nothing is handed back
 pub record IsRefused (old new : World) (journals : Option Journals) (lists : Option RunLists) : Type 0 where
@@ -147,10 +151,11 @@ pub record IsRefused (old new : World) (journals : Option Journals) (lists : Opt
   pub no_lists : lists ≡ None
 
 -- lanes began, and memory ran out: what they did is in the journals, there are no replies, and nothing is written; the
--- device was touched in the record alone, and failed at most once
-pub record IsCutOff (old new : World) (o : Origin) (lists : RunLists) (status : Status) : Type 0 where
-  pub spares : Tells old.disk → Spares (Outside 0 (record_len o.units)) old.disk new.disk
-  pub faults : (new.faults ≡ old.faults) ⊎ (new.faults ≡ one_more old.faults)
+-- device is as the last done sync left it, or the run found it, or it failed once and was left alone since
+pub record IsCutOff (old new : World) (o : Origin) (journal : MsJournal) (lists : RunLists) (status : Status) : Type 0 where
+  pub spares : Tells old.disk → Spares (Spared o) old.disk new.disk
+  pub device : ((new.faults ≡ old.faults) × (Tells old.disk → IsRecorded old.disk new.disk o journal.notes))
+      ⊎ ((new.faults ≡ one_more old.faults) × (Tells old.disk → IsHalfRecorded old.disk new.disk o journal.notes))
   pub none : lists.replies ≡ []
   pub status_is : status ≡ Memory
   pub out : new.out ≡ old.out
@@ -164,7 +169,7 @@ pub record LanesEnd (commands : List Command) (old new : World) (o : Origin) (st
   pub journals_are : journals ≡ Some some_journals
   pub lists_are : lists ≡ Some some_lists
   pub shipped : AreShipped o some_journals some_lists journal
-  pub end : IsCutOff old new o some_lists status ⊎ LanesDid commands old new o journal some_journals some_lists status
+  pub end : IsCutOff old new o journal some_lists status ⊎ LanesDid commands old new o journal some_journals some_lists status
 
 -- the ways in which a run ends
 pub data RunEnds (old new : World) (status : Status) (journals : Option Journals) (lists : Option RunLists) : Type 0 where
@@ -182,7 +187,7 @@ pub data WritesNew (units : ℕ) (out out_now : SinkState) (start now : DiskStat
   device : high ≡ one_more low → (Tells start → Spares (Outside 0 (record_len units)) start now) → out_now ≡ out → WritesNew units out out_now start now low high DeviceFault
   memory : (Tells start → Untouched start now) → high ≡ low → out_now ≡ out → WritesNew units out out_now start now low high Memory
   written : (Tells start → (c : List ℕ) → now.may_leave c → IsEmptyRecord c units) → (Tells start → Spares (Outside 0 (record_len units)) start now) → high ≡ low
-      → (printed : Result (Unit {0}) Failed) → Prints out out_now created_text printed
+      → (printed : Result (Unit {0}) Failed) → HandsOn out out_now created_text printed
       → WritesNew units out out_now start now low high (end_status false printed)
 
 -- the ways in which a creation ends
@@ -195,5 +200,5 @@ pub data CreateEnds (units : ℕ) (out out_now : SinkState) (start now : DiskSta
   memory : (Tells start → Untouched start now) → high ≡ low → out_now ≡ out → CreateEnds units out out_now start now low high Memory
   created : (Tells start → HasNoRecord (bytes_of start)) → (Tells start → (c : List ℕ) → now.may_leave c → IsEmptyRecord c units)
       → (Tells start → Spares (Outside 0 (record_len units)) start now) → high ≡ low
-      → (printed : Result (Unit {0}) Failed) → Prints out out_now created_text printed
+      → (printed : Result (Unit {0}) Failed) → HandsOn out out_now created_text printed
       → CreateEnds units out out_now start now low high (end_status false printed)

@@ -1,7 +1,8 @@
 -- What a run keeps true between two commands.
-use Rattle.std.specs.Prelude.{◌≡◌, ◌≢◌, ℕ, ◌+◌, ◌*◌, ◌<◌, ◌≤◌, Bool, true, false, Option, None, List, [], ◌∷◌, ◌++◌}
+use Rattle.std.specs.Prelude.{◌≡◌, ◌≢◌, ◌⊎◌, ℕ, ◌+◌, ◌*◌, ◌<◌, ◌≤◌, Bool, true, false, Option, None, List, [], ◌∷◌, ◌++◌}
 use Rattle.std.specs.List.{All}
 use Rattle.zms_units.specs.declared.faults.First.{First}
+use Rattle.zms_units.specs.declared.places.MsId.{MsId}
 use Rattle.ms_model.specs.Origin.{Origin}
 use Rattle.ms_model.specs.Units.{held, settled_group, collected_group, is_loaded}
 use Rattle.ms_model.specs.Legal.{IsLegal}
@@ -12,13 +13,19 @@ use Rattle.ms_model.specs.Events.{Event, gate_steps, metaslab_steps}
 use Rattle.ms_model.specs.declared.notes.Act.TheVariants.{Load, Unload}
 use Rattle.ms_model.specs.declared.notes.Noted.{Noted}
 use Rattle.ms_model.specs.declared.notes.GateNote.{GateNote}
+use Rattle.zms_dev.specs.Bytes.{Outside, Torn}
 use Rattle.zms_dev.specs.Disk.{DiskState, Tells, bytes_of}
-use Rattle.zms_top.specs.Backing.{Ground}
-use Rattle.zms_top.specs.Record.{IsRecord, is_set, bit_bytes}
+use Rattle.zms_dev.specs.Runs.{Before}
+use Rattle.zms_top.specs.Lines.{Shape}
+use Rattle.zms_top.specs.Record.{IsRecord, is_set, bit_bytes, record_len}
+
+-- the name of a pool's one metaslab
+abbrev pub first_id : MsId
+first_id = record { vdev = 0; index = 0 }
 
 -- a pool of one metaslab
-abbrev pub ground_of : Origin → Ground
-ground_of o = record { opened = o.opened; ashift = o.ashift; units = o.units; metaslabs = 1; bases = λ _. o.base }
+abbrev pub shape_of : Origin → Shape
+shape_of o = record { opened = o.opened; ashift = o.ashift; units = o.units; metaslabs = 1; bases = λ _. o.base }
 
 -- the metaslab's journal is legal, the gate's says the same of groups, and while no fault is kept the bits in memory are
 -- what the last group holds
@@ -49,6 +56,10 @@ pub data Loads (lane : ℕ) (h : List Noted) : List Noted → Type 0 where
   loaded : is_loaded h ≡ true → Loads lane h h
   loads : is_loaded h ≡ false → Loads lane h (h ++ (record { lane = lane; act = Load } ∷ []))
 
+-- it was brought there, or nothing was noted
+abbrev pub MayLoad : ℕ → List Noted → List Noted → Type 0
+MayLoad lane h j = (j ≡ h) ⊎ Loads lane h j
+
 -- an image has the record of the last settled group, with exactly the units that this group holds, and zeros behind them
 pub record HoldsGroup (image : List ℕ) (o : Origin) (h : List Noted) : Type 0 where
   pub is : IsRecord image (settled_group o h) o.units
@@ -62,3 +73,14 @@ pub record IsRecorded (start now : DiskState) (o : Origin) (h : List Noted) : Ty
   pub untouched : settled_group o h ≡ o.opened → bytes_of now ≡ bytes_of start
   pub unchanged : settled_group o h ≡ o.opened → (c : List ℕ) → now.may_leave c → start.may_leave c
   pub stored : o.opened < settled_group o h → (c : List ℕ) → now.may_leave c → HoldsGroup c o h
+
+-- the places that no commit touches
+abbrev pub Spared : Origin → ℕ → Type 0
+Spared o = Outside 0 (record_len o.units)
+
+-- a commit failed, and the device was left alone since: each image that a stop may leave is, but for that commit's places, one
+-- that the run found while nothing was committed, and else one of the last settled group
+pub record IsHalfRecorded (start now : DiskState) (o : Origin) (h : List Noted) : Type 0 where
+  pub tells : Tells now
+  pub unchanged : settled_group o h ≡ o.opened → (c : List ℕ) → now.may_leave c → Before start (Spared o) c
+  pub stored : o.opened < settled_group o h → (c : List ℕ) → now.may_leave c → (d : List ℕ) × HoldsGroup d o h × Torn (Spared o) d c

@@ -2,7 +2,7 @@
 
 ghost use Rattle.std.specs.Prelude.{◌≡◌, ℕ, List, if◌then◌else◌, Some, OnOk};
 ghost use Rattle.std.specs.Str.{bytes_eq};
-ghost use Rattle.zms_top.specs.Naming.{seg_named};
+ghost use Rattle.zms_top.specs.Names.{seg_named};
 
 use std::alloc::AllocError;
 use std::collections::BTreeMap;

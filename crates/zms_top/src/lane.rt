@@ -12,17 +12,17 @@ ghost use Rattle.zms_dev.specs.Runs.{Spares};
 ghost use Rattle.zms_top.specs.Record.{record_len};
 ghost use Rattle.zms_top.specs.Script.{IsBuilt, IsCommand};
 ghost use Rattle.zms_top.specs.Answers.{Replied, first_with, synced_after, first_fault, paired};
-ghost use Rattle.zms_top.specs.Backing.{WhatLine, AreIntervals};
-ghost use Rattle.zms_top.specs.Sound.{ground_of};
-ghost use Rattle.zms_top.specs.Naming.{AreWithin, Learns, AreNamed};
-ghost use Rattle.zms_top.specs.Acting.{Acted, IsPool, IsKept};
-ghost use Rattle.zms_top.specs.Running.{HasRun, answers_of};
+ghost use Rattle.zms_top.specs.Lines.{WhatLine, AreIntervals};
+ghost use Rattle.zms_top.specs.Sound.{shape_of};
+ghost use Rattle.zms_top.specs.Names.{AreWithin, Learns, AreNamed};
+ghost use Rattle.zms_top.specs.Pools.{Acted, IsPool, IsKept, IsHalfKept, LeavesSettled};
+ghost use Rattle.zms_top.specs.Runs.{HasRun, answers_of};
 
-use crate::allocating::alloc;
+use crate::allocs::alloc;
 use crate::blocks::find_block;
-use crate::freeing::free;
+use crate::frees::free;
 use crate::pool::Pool;
-use crate::syncing::sync;
+use crate::syncs::sync;
 use crate::{Answer, Reply};
 use cmd_text::{Command, What};
 use std::alloc::{AllocError, Global};
@@ -44,16 +44,17 @@ fn run_command<'a, D: Disk>(
     requires built { IsBuilt what.now }
     requires few { closings_of lane pool.old.gate.notes < MAX_COMMANDS }
     requires within { AreWithin pool.old.metaslab.units blocks.old }
-    ensures acted { (done : List Replied) → first_fault done ≡ pool.old.first → AreNamed (ground_of (origin_of pool.old.metaslab)) done blocks.old → IfOk result (λ answer. Acted pool.old pool.new lane (WhatLine (ground_of (origin_of pool.old.metaslab)) lane done what.now answer)) }
-    ensures learns { IfOk result (λ answer. Learns (ground_of (origin_of pool.old.metaslab)) what.now answer blocks.old blocks.new) }
+    ensures acted { (done : List Replied) → first_fault done ≡ pool.old.first → AreNamed (shape_of (origin_of pool.old.metaslab)) done blocks.old → IfOk result (λ answer. Acted pool.old pool.new lane (WhatLine (shape_of (origin_of pool.old.metaslab)) lane done what.now answer)) }
+    ensures learns { IfOk result (λ answer. Learns (shape_of (origin_of pool.old.metaslab)) what.now answer blocks.old blocks.new) }
     ensures first { IfOk result (λ answer. pool.new.first ≡ first_with pool.old.first answer) }
     ensures synced { IfOk result (λ answer. settled_of pool.new.metaslab ≡ synced_after (settled_of pool.old.metaslab) what.now answer) }
     ensures intervals { IfOk result (λ answer. AreIntervals (D.faults disk.old) (D.faults disk.new) (answer ∷ [])) }
     ensures kept { Tells (D.state disk.old) → IfOk result (λ answer. pool.new.first ≡ None → IsKept (origin_of pool.old.metaslab) pool.old.metaslab.notes pool.new.metaslab.notes (D.state disk.old) (D.state disk.new)) }
     ensures spares { Tells (D.state disk.old) → Spares (Outside 0 (record_len pool.old.record.units)) (D.state disk.old) (D.state disk.new) }
-    ensures err { OnErr result ((disk.new ≡ disk.old) × (pool.new.first ≡ pool.old.first)) }
+    ensures err { OnErr result ((disk.new ≡ disk.old) × ((pool.new.first ≡ pool.old.first) × LeavesSettled pool.old pool.new)) }
     // Whatever is answered.
     ensures suspended { IsSome pool.old.first → disk.new ≡ disk.old }
+    ensures leaves { IsSome pool.new.first → LeavesSettled pool.old pool.new }
     ensures stays { StaysButNotes pool.old.metaslab pool.new.metaslab }
     ensures gate { pool.new.gate.opened ≡ pool.old.gate.opened }
 {
@@ -82,8 +83,9 @@ pub(crate) fn run_lane<D: Disk, M: Meet>(
     ensures each { IfOk result (λ replies. length replies.items ≡ length commands.now) }
     ensures ran { IfOk result (λ replies. HasRun pool.old pool.new (paired commands.now replies.items)) }
     ensures intervals { IfOk result (λ replies. AreIntervals (D.faults disk.old) (D.faults disk.new) (answers_of replies.items)) }
-    ensures kept { Tells (D.state disk.old) → IfOk result (λ replies. pool.new.first ≡ None → IsKept (origin_of pool.old.metaslab) pool.old.metaslab.notes pool.new.metaslab.notes (D.state disk.old) (D.state disk.new)) }
     // Whatever is answered.
+    ensures kept { Tells (D.state disk.old) → pool.new.first ≡ None → IsKept (origin_of pool.old.metaslab) pool.old.metaslab.notes pool.new.metaslab.notes (D.state disk.old) (D.state disk.new) }
+    ensures half_kept { Tells (D.state disk.old) → IsSome pool.new.first → IsHalfKept (origin_of pool.old.metaslab) pool.old.metaslab.notes pool.new.metaslab.notes (D.state disk.old) (D.state disk.new) }
     ensures faults { D.faults disk.new ≡ (if is_some pool.new.first then one_more (D.faults disk.old) else D.faults disk.old) }
     ensures spares { Tells (D.state disk.old) → Spares (Outside 0 (record_len pool.old.record.units)) (D.state disk.old) (D.state disk.new) }
     ensures stays { StaysButNotes pool.old.metaslab pool.new.metaslab }

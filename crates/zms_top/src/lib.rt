@@ -13,20 +13,20 @@
 //! status and its exit status are exactly those of `specs/Statuses.antt`.
 #![tactic(auto)]
 
-mod allocating;
+mod allocs;
 mod blocks;
-mod freeing;
+mod first_record;
+mod frees;
 mod lane;
 mod look;
+mod output;
 mod pool;
-mod printing;
-mod record;
 mod replies;
+mod report;
 mod run;
 mod script;
-mod shipping;
 mod status;
-mod syncing;
+mod syncs;
 mod tally;
 mod top;
 mod words;

@@ -1,6 +1,6 @@
 //! A pool as a run keeps it: one metaslab, the gate, and the record that is committed to the device.
 
-use crate::record::FirstRecord;
+use crate::first_record::FirstRecord;
 use ms_core::{Metaslab, RunBuf};
 use seg_trees::PlainTrees;
 use txg_gate::Gate;

@@ -10,16 +10,17 @@ ghost use Rattle.zms_top.specs.Ends.{text_of, IsRead, IsReadEnd, IsOfText, IsOpe
 ghost use Rattle.zms_top.specs.Record.{IsGroup};
 ghost use Rattle.ms_core.specs.State.{origin_of};
 ghost use Rattle.zms_top.specs.Ends.{RunEnds};
-ghost use Rattle.zms_top.specs.Opening.{IsOpened, IsAssembled, IsFresh};
+ghost use Rattle.zms_top.specs.FreshPool.{IsOpened, IsAssembled, IsFresh};
 ghost use Rattle.zms_top.specs.Answers.{paired};
-ghost use Rattle.zms_top.specs.Shipping.{HasHandedOver, IsReported};
+ghost use Rattle.zms_top.specs.Sound.{first_id};
+ghost use Rattle.zms_top.specs.Reports.{HasHandedOver, IsReported};
 
 use crate::Reply;
+use crate::first_record::{FirstRecord, Opened, StoreFault};
 use crate::lane::run_lane;
 use crate::pool::{ASHIFT, FIRST_METASLAB, Pool};
-use crate::record::{FirstRecord, Opened, StoreFault};
+use crate::report::{EmptyLists, hand_over, print, status_of, trace_journals};
 use crate::script::read_runnable;
-use crate::shipping::{Room, hand_over, print, status_of, trace_journals};
 use crate::status::{OpenCause, PoolCause, RunLists, Status};
 use cmd_text::{Command, TextFault};
 use ms_core::{Metaslab, RunBuf};
@@ -120,12 +121,12 @@ fn refused(status: Status) -> Ended
 }
 
 /// A run whose lanes were cut off by want of memory. Writes nothing.
-fn cut_off(alloc: Global, pool: Pool, room: Room) -> Ended
+fn cut_off(alloc: Global, pool: Pool, empty: EmptyLists) -> Ended
     requires { pool.gate.opened ≡ pool.metaslab.opened }
     ensures status { result.status ≡ Status.Memory }
     ensures handed { HasHandedOver pool [] result.journals result.lists }
 {
-    let (journals, lists) = hand_over(alloc, pool, room, Items::new(alloc));
+    let (journals, lists) = hand_over(alloc, pool, empty, Items::new(alloc));
     Ended {
         status: Status::Memory,
         journals: Some(journals),
@@ -141,17 +142,17 @@ fn reported<K: Sink, T: Sink>(
     trace: &mut T,
     pool: Pool,
     commands: &[Command],
-    room: Room,
+    empty: EmptyLists,
     replies: Vec<Reply>,
 ) -> Ended
     requires shift { pool.metaslab.ashift ≡ 12 }
-    requires id { pool.metaslab.id ≡ record { vdev = 0; index = 0 } }
+    requires id { pool.metaslab.id ≡ first_id }
     requires opened { pool.gate.opened ≡ pool.metaslab.opened }
     requires each { length commands.now ≡ length replies.items }
     ensures { IsReported pool (paired commands.now replies.items) replies.items (K.state out.old) (K.state out.new) (T.state trace.old) (T.state trace.new) result.status result.journals result.lists }
 {
     let printed = print(out, &pool, commands, &replies);
-    let (journals, lists) = hand_over(alloc, pool, room, Items::from_vec(replies));
+    let (journals, lists) = hand_over(alloc, pool, empty, Items::from_vec(replies));
     let written = trace_journals(trace, printed, &journals);
     Ended {
         status: status_of(lists.replies.as_slice(), written),
@@ -168,7 +169,7 @@ fn run_lanes<K: Sink, T: Sink, D: Disk, M: Meet>(
     disk: &mut D,
     opened: Pool,
     commands: &[Command],
-    room: Room,
+    empty: EmptyLists,
     meet: &M,
 ) -> Ended
     requires opened { IsFresh opened }
@@ -178,8 +179,8 @@ fn run_lanes<K: Sink, T: Sink, D: Disk, M: Meet>(
 {
     let mut pool = opened;
     match run_lane(alloc, &mut pool, disk, commands, meet) {
-        Err(_) => cut_off(alloc, pool, room),
-        Ok(replies) => reported(alloc, out, trace, pool, commands, room, replies),
+        Err(_) => cut_off(alloc, pool, empty),
+        Ok(replies) => reported(alloc, out, trace, pool, commands, empty, replies),
     }
 }
 
@@ -203,7 +204,7 @@ pub(crate) fn run<S: Source, K: Sink, T: Sink, D: Disk, M: Meet>(
         Ok(pool) => pool,
         Err(status) => return refused(status),
     };
-    let Ok(room) = Room::take(alloc) else {
+    let Ok(empty) = EmptyLists::take(alloc) else {
         return refused(Status::Memory);
     };
     run_lanes(
@@ -213,7 +214,7 @@ pub(crate) fn run<S: Source, K: Sink, T: Sink, D: Disk, M: Meet>(
         disk,
         pool,
         commands.as_slice(),
-        room,
+        empty,
         meet,
     )
 }

@@ -14,8 +14,8 @@ ghost use Rattle.zms_top.specs.Ends.{IsOfText, RunEnds, CreateEnds, WritesNew, I
 ghost use Rattle.zms_top.specs.declared.words.Asked.TheVariants.{Create, Run};
 ghost use Rattle.zms_top.specs.declared.status.Status.TheVariants.{Usage};
 
-use crate::printing::write_created;
-use crate::record::{FirstRecord, StoreFault};
+use crate::first_record::{FirstRecord, StoreFault};
+use crate::output::write_created;
 use crate::run::run;
 use crate::status::{PoolCause, Shipped, Status};
 use crate::words::{Asked, read_words};

@@ -78,28 +78,31 @@ impl Source for MemSource {
 #[derive(Drop)]
 pub struct MemSink {
     taken: Vec<u8>,
+    // How many of them were handed on.
+    handed: usize,
     room: usize,
     script: Script,
 }
 
 impl Model for MemSink {
-    ghost use Rattle.std.specs.Prelude.{◌≤◌, vec_capacity, length};
+    ghost use Rattle.std.specs.Prelude.{◌≤◌, vec_capacity, length, take};
     ghost use Rattle.zms_dev.specs.Memory.{SinkForm};
 
     ghost Value = { SinkForm };
 
-    ghost view = { λ s. record { taken = s.taken.items; room = s.room; script = s.script } };
+    ghost view = { λ s. record { taken = s.taken.items; handed = take s.handed s.taken.items; room = s.room; script = s.script } };
 
-    ghost invariant = { λ s. (s.room ≤ vec_capacity s.taken) × (length s.taken.items ≤ s.room) };
+    ghost invariant = { λ s. (s.room ≤ vec_capacity s.taken) × (length s.taken.items ≤ s.room) × (s.handed ≤ length s.taken.items) };
 }
 
 impl MemSink {
     /// An empty sink with this room. The calls in `failing` fail, the first being call 0.
     pub fn new(alloc: Global, room: Room, failing: &[usize]) -> Result<MemSink, AllocError>
-        ensures { IfOk result (λ s. s ≡ record { taken = []; room = room.bytes; script = fresh room.calls failing.now }) }
+        ensures { IfOk result (λ s. s ≡ record { taken = []; handed = []; room = room.bytes; script = fresh room.calls failing.now }) }
     {
         Ok(MemSink {
             taken: Vec::with_capacity(alloc, room.bytes)?,
+            handed: 0,
             room: room.bytes,
             script: Script::new(alloc, room.calls, failing)?,
         })
@@ -110,6 +113,13 @@ impl MemSink {
         ensures { result.now ≡ self.now.taken }
     {
         &self.taken
+    }
+
+    /// The bytes that it has handed on: all that it had taken at its last flush.
+    pub fn handed(&self) -> &[u8]
+        ensures { result.now ≡ self.now.handed }
+    {
+        &self.taken[..self.handed]
     }
 
     /// How many calls have failed.
@@ -123,13 +133,14 @@ impl MemSink {
 impl Sink for MemSink {
     ghost use Rattle.std.specs.Prelude.{Some};
 
-    ghost state = { λ s. record { taken = Some s.taken; faults = s.script.faults } };
+    ghost state = { λ s. record { taken = Some s.taken; handed = Some s.handed; faults = s.script.faults } };
 
     fn write(&mut self, bytes: &[u8]) -> Result<usize, Failed>
         ensures answer { is_ok result ≡ (allows self.old.script && nat_le (length self.old.taken + length bytes.now) self.old.room) }
         ensures script { self.new.script ≡ after_call self.old.script (is_ok result) }
         ensures whole { IfOk result (λ n. (n ≡ length bytes.now) × (self.new.taken ≡ self.old.taken ++ bytes.now)) }
         ensures err { OnErr result (self.new.taken ≡ self.old.taken) }
+        ensures handed { self.new.handed ≡ self.old.handed }
         ensures room { self.new.room ≡ self.old.room }
     {
         self.script
@@ -138,11 +149,12 @@ impl Sink for MemSink {
         Ok(bytes.len())
     }
 
-    // It keeps what it takes, and has nothing to hand on.
+    // It keeps what it takes, so a flush always succeeds.
     fn flush(&mut self) -> Result<(), Failed>
         ensures done { IsOk result }
-        ensures same { self.new ≡ self.old }
+        ensures form { self.new ≡ record self.old { handed = self.old.taken } }
     {
+        self.handed = self.taken.len();
         Ok(())
     }
 }

@@ -1,7 +1,7 @@
 use Rattle.std.proofs.Common.{refl, ◌∙◌, ap}
 use Rattle.zms_top.specs.Answers.{paired}
 use Rattle.zms_top.specs.Ends.{any_device, end_status}
-use Rattle.zms_top.specs.Shipping.{HandsOver, IsPrinted}
+use Rattle.zms_top.specs.Reports.{HandsOver, IsPrinted}
 use Rattle.zms_top.proofs.ShipLemmas.{stops_by}
 use Rattle.zms_top.proofs.run.reported.Goals as goal
 

@@ -1,5 +1,0 @@
-use Rattle.zms_dev.proofs.Prints.{prints_flushed}
-use Rattle.zms_top.proofs.printing.write_created.Goals as goal
-
-pub returns : goal.returns
-returns g c = prints_flushed _ _ _ _ _ _ _ c.write.ensures c.in_ok-write.was c.flush.ensures.taken c.flush.ensures.cause

@@ -1,9 +1,0 @@
-use Rattle.std.proofs.Common.{take}
-use Rattle.std.specs.List.{flat_map}
-use Rattle.zms_dev.proofs.Prints.{Took}
-use Rattle.zms_top.specs.Answers.{paired}
-use Rattle.zms_top.specs.Texts.{reply_text}
-use Rattle.zms_top.proofs.printing.write_replies.Given as goal
-
-abbrev pub invariant-loop-at : goal.invariant-loop-at
-invariant-loop-at g l = Took (g.S.Sink.state l.fn.out) (g.S.Sink.state l.out) (flat_map reply_text (take l.at (paired l.commands l.replies)))
