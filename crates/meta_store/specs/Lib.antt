@@ -1,0 +1,17 @@
+pub mod Words
+pub mod Heads
+pub mod Groups
+pub mod Faults
+pub mod Causes
+pub mod Finding
+pub mod Kept
+pub mod Stores
+pub mod StoresInside
+pub mod Batches
+pub mod Commits
+pub mod Rewinds
+pub mod Laws
+pub mod CommitFaults
+pub mod NextWords
+pub mod NextRows
+pub mod NextGroups
