@@ -269,6 +269,10 @@ module _ (layout : Layout) (table : Table) (batches : List Batch) (image mid c :
   pub is_after : IsAfter table.group.0 batches image c
   is_after = record {
     newest = record { uber = next.uber; newest = newest; named = omega (arith, uber_group, is_next.table_is.group) };
+    only = λ other is. elim (others other is) [
+      | inl same ↦ inl (let e : other.group.0 ≡ next.uber.group.0 = ap (λ (u : Uber). u.group.0) same in omega (arith, uber_group, is_next.table_is.group))
+      | inr was ↦ inr was
+    ];
     keeps = keeps_groups layout table image rests t is_one_more safe wide c whole_run (table.group.0 + 1) (omega (arith, old_group));
     finds = λ contents found backed. new_finds contents found backed;
   }

@@ -39,7 +39,7 @@ use Rattle.meta_store.proofs.Retaining.{table_group, laid_back, slot_back, befor
 use Rattle.meta_store.proofs.ValidOrNot.{same_or_not, valid_or_not}
 
 -- a run that leaves only images with P, and only images with Q
-both_leave : (old new : DiskState) (P Q : List ℕ → Type 0) → LeavesOnly old new P → LeavesOnly old new Q → LeavesOnly old new (λ c. P c × Q c)
+pub both_leave : (old new : DiskState) (P Q : List ℕ → Type 0) → LeavesOnly old new P → LeavesOnly old new Q → LeavesOnly old new (λ c. P c × Q c)
 both_leave old new P Q first second = record {
   later = first.later;
   each = λ c left. (first.each c left, second.each c left);

@@ -21,3 +21,7 @@ pub mod ValidOrNot
 pub mod After
 pub mod Committed
 pub mod NextTables
+pub mod RewindEnds
+pub mod FirstTables
+pub mod NewPools
+pub mod MakingPools

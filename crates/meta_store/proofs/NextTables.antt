@@ -43,7 +43,7 @@ use Rattle.meta_store.proofs.RowPlaces.{has_row}
 use Rattle.meta_store.proofs.WordsAt.{words_at_same, words_at_from, get-words_at}
 
 -- the least of numbers that are all the same
-least_same : (a : ℕ) (rows : List MsRow) → All (λ (row : MsRow). (row.unflushed.0 ≡ a) × (row.side ≡ 0)) rows → fold min a (map (λ (row : MsRow). row.unflushed.0) rows) ≡ a
+pub least_same : (a : ℕ) (rows : List MsRow) → All (λ (row : MsRow). (row.unflushed.0 ≡ a) × (row.side ≡ 0)) rows → fold min a (map (λ (row : MsRow). row.unflushed.0) rows) ≡ a
 least_same a [] all = refl
 least_same a (row ∷ rows) all =
     let first = All-head (λ (row : MsRow). (row.unflushed.0 ≡ a) × (row.side ≡ 0)) row rows all in

@@ -178,7 +178,7 @@ module _ (layout : Layout) (table : Table) (image : List ℕ) (rests : RestsAt l
       }
 
       pub before : IsBefore rests.uber.group.0 image c
-      before = record { newest = record { uber = rests.uber; newest = newest_still; named = refl }; keeps = keeps_groups rests.uber.group.0 (omega arith) }
+      before = record { newest = record { uber = rests.uber; newest = newest_still; named = refl }; only = no_more; keeps = keeps_groups rests.uber.group.0 (omega arith) }
 
       pub rests_still : RestsAt layout table c
       rests_still = record {

@@ -10,6 +10,9 @@ pub mod StoresInside
 pub mod Batches
 pub mod Commits
 pub mod Rewinds
+pub mod CreateFaults
+pub mod Creates
+pub mod FirstGroups
 pub mod Laws
 pub mod CommitFaults
 pub mod NextWords

@@ -1,12 +1,11 @@
--- What a stop may leave while the opened group is made the only one, and while a pool is made.
-use Rattle.std.specs.Prelude.{◌≡◌, ◌≢◌, ℕ, ◌%◌, ◌<◌, ◌≤◌, ◌⊎◌, false, List, ◌∷◌, ◌++◌, length, Option, None, Some, IfSome, MatchOption, slice_index_or}
+-- What a stop may leave while the opened group is made the only one.
+use Rattle.std.specs.Prelude.{◌≡◌, ◌≢◌, ℕ, ◌+◌, ◌%◌, ◌<◌, ◌≤◌, ◌⊎◌, ◌==◌, not, Bool, false, List, [], ◌∷◌, ◌++◌, length, Option, None, Some, IfSome, MatchOption, slice_index_or, count_by}
 use Rattle.zms_units.specs.declared.segments.Group.{Group}
-use Rattle.zms_dev.specs.Bytes.{byte}
+use Rattle.zms_dev.specs.Bytes.{byte, Outside}
 use Rattle.zms_dev.specs.Disk.{DiskState, Tells, bytes_of, Only}
-use Rattle.vdev_map.specs.declared.layout.Layout.{Layout}
-use Rattle.uber_ring.specs.Slots.{IsValid, HasNone}
+use Rattle.vdev_map.specs.Places.{slot_place}
+use Rattle.uber_ring.specs.Slots.{IsValid}
 use Rattle.uber_ring.specs.declared.slot.Uber.{Uber}
-use Rattle.meta_store.specs.Groups.{Contents, Finds, HasNewest}
 use Rattle.meta_store.specs.Kept.{IsKept}
 
 -- a group keeps what it has before the old image's end
@@ -76,15 +75,45 @@ pub record HasFlush (old new : DiskState) : Type 0 where
   pub rest : List ℕ
   pub noted : new.flushes ≡ old.flushes ++ moment ∷ rest
 
--- what a pool of this layout holds when it is made
-abbrev pub nothing_held : Layout → Contents
-nothing_held layout = record { layout = layout; held = λ id u. false }
+-- does a slot have a group other than this one?
+abbrev pub is_other : Group → Option Group → Bool
+is_other opened None = false
+is_other opened (Some group) = not (group.0 == opened.0)
 
--- the pool is there, with its first group as the newest and with nothing held
-pub record IsNewPool (layout : Layout) (image : List ℕ) : Type 0 where
-  pub newest : HasNewest image 4
-  pub finds : Finds image 4 (nothing_held layout)
+-- how many groups of the ring are others than this one
+abbrev pub others_in : List (Option Group) → Group → ℕ
+others_in groups opened = count_by (is_other opened) groups
 
--- there is no pool yet, or all of it
-abbrev pub IsNoneOrNew : Layout → List ℕ → Type 0
-IsNoneOrNew layout image = HasNone image ⊎ IsNewPool layout image
+-- this is the moment of the flush behind which the opened group is the only valid one, told by its number: the first flush
+-- comes before anything is closed, and one comes behind each closing
+pub record EndsAt (opened : Uber) (old new : DiskState) (moment : ℕ) : Type 0 where
+  pub groups : List (Option Group)
+  pub slots : length groups ≡ 128
+  pub ring : IsRing (bytes_of old) groups 128
+  pub before : List ℕ
+  pub many : length before ≡ others_in groups opened.group
+  pub rest : List ℕ
+  pub noted : new.flushes ≡ old.flushes ++ (before ++ moment ∷ rest)
+
+-- and from then on each image is one of the rewound device
+pub record EndsRewound (opened : Uber) (old new : DiskState) : Type 0 where
+  pub moment : ℕ
+  pub ends : EndsAt opened old new moment
+  pub early : moment ≤ new.moment
+  pub since : (c : List ℕ) → new.left_since moment c → IsRewound opened (bytes_of old) c
+
+-- so many flushes succeeded, the last of them at this moment
+abbrev pub HasClosed : ℕ → DiskState → DiskState → Type 0
+HasClosed n old new =
+    ((n ≡ 0) × (new.flushes ≡ old.flushes)) ⊎ ((before : List ℕ) × ((length before + 1 ≡ n) × (new.flushes ≡ old.flushes ++ (before ++ new.moment ∷ []))))
+
+-- one flush for each group of the ring but the opened one
+pub record ClosesOthers (opened : Group) (old new : DiskState) : Type 0 where
+  pub groups : List (Option Group)
+  pub slots : length groups ≡ 128
+  pub ring : IsRing (bytes_of old) groups 128
+  pub closed : HasClosed (others_in groups opened) old new
+
+-- a place that is not the gate of any slot
+abbrev pub IsNoGate : ℕ → Type 0
+IsNoGate p = (slot : ℕ) → Outside (slot_place slot + 1023) 1 p

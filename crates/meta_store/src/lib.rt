@@ -6,9 +6,11 @@
 //! group holds, as runs that add up to the number in its row on every device (`runs`, `count`). `rewind` makes the group the
 //! only valid one: from its first flush on a stop at each moment leaves it whole and valid, and no group that was not valid
 //! before (`after_first`), and then the store is at rest (`at_rest`). `commit` makes the next group: at each moment a stop
-//! leaves the group before or the next one as the newest, and each group at most two below it finds what it found
-//! (`any_moment`); after it a stop leaves the next one (`done`), which holds what the one before held with the batches
-//! applied.
+//! leaves the group before or the next one as the newest, each group at most two below it finds what it found, and no slot
+//! is valid that was not before but that of the next group (`any_moment`); after it a stop leaves the next one (`done`),
+//! which holds what the one before held with the batches applied. `create` makes a pool on a device that has none, and
+//! writes nothing where one is (`pool`): from its first flush on a stop at each moment leaves no valid slot, or the first
+//! group with nothing held (`after_first`).
 //!
 //! What a group holds is defined once, over the bytes of a stopped device (`Finds`, `specs/Groups.antt`): a unit is held
 //! where the words say so that the row of its metaslab names. What opening reads are the kept places of the group
@@ -21,6 +23,8 @@ mod causes;
 mod commit_faults;
 mod committing;
 mod condensing;
+mod create_faults;
+mod creating;
 mod finding;
 mod heads;
 pub mod laws;
@@ -34,5 +38,7 @@ mod words;
 
 pub use causes::{At, FoundFault, OpenCause, OpenFault};
 pub use commit_faults::CommitFault;
+pub use create_faults::CreateFault;
+pub use creating::create;
 pub use opening::open;
 pub use store::MetaStore;

@@ -105,6 +105,7 @@ fn read_rows<D: Disk>(
     requires early { uber.now.group.0 < GROUPS_END }
     requires head { IsWholeLimits head.now }
     ensures limits { IfOk result (λ table. IsTable head.now table) }
+    ensures group { IfOk result (λ table. table.group ≡ uber.now.group) }
     ensures table { Tells (D.state disk.old) → IfOk result (HasTable (bytes_of (D.state disk.old)) head.now uber.now) }
     ensures sound { Tells (D.state disk.old) → IfOk result (λ table. (id : MsId) → IsIn table.vdevs id → IsSound (bytes_of (D.state disk.old)) table id) }
     ensures err { Tells (D.state disk.old) → IsWholeHead (head_bytes (bytes_of (D.state disk.old))) head.now → IfErr result (IsOpenFaultOf (bytes_of (D.state disk.old)) uber.now) }
@@ -133,6 +134,7 @@ fn layout_for(alloc: Global, head: &Head, table: &Table) -> Result<Layout, Alloc
 fn read_group<D: Disk>(alloc: Global, disk: &mut D, uber: &Uber) -> Result<Opened, OpenFault>
     requires { IsUber uber.now }
     ensures limits { IfOk result (λ opened. IsStore opened.layout opened.table) }
+    ensures early { IfOk result (λ opened. opened.table.group.0 < GROUPS_END) }
     ensures opened { Tells (D.state disk.old) → IsValid (bytes_of (D.state disk.old)) uber.now → IfOk result (λ opened. IsOpened (bytes_of (D.state disk.old)) uber.now opened.layout opened.table) }
     ensures err { Tells (D.state disk.old) → IfErr result (IsOpenFaultOf (bytes_of (D.state disk.old)) uber.now) }
     ensures rests { Tells (D.state disk.old) → Untouched (D.state disk.old) (D.state disk.new) }
@@ -151,6 +153,7 @@ fn read_group<D: Disk>(alloc: Global, disk: &mut D, uber: &Uber) -> Result<Opene
 /// Reads the group that is asked for.
 fn read_store<D: Disk>(alloc: Global, disk: &mut D, at: At) -> Result<Opened, OpenFault>
     ensures limits { IfOk result (λ opened. IsStore opened.layout opened.table) }
+    ensures early { IfOk result (λ opened. opened.table.group.0 < GROUPS_END) }
     ensures opened { Tells (D.state disk.old) → IfOk result (λ opened. Opens (bytes_of (D.state disk.old)) at opened.layout opened.table) }
     ensures err { Tells (D.state disk.old) → IfErr result (IsOpenFault (bytes_of (D.state disk.old)) at) }
     ensures rests { Tells (D.state disk.old) → Untouched (D.state disk.old) (D.state disk.new) }
@@ -169,6 +172,7 @@ fn read_store<D: Disk>(alloc: Global, disk: &mut D, at: At) -> Result<Opened, Op
 /// the rest what the group names. Linear in the words that are read and in the units.
 pub fn open<D: Disk>(alloc: Global, disk: D, at: At) -> Result<MetaStore<D>, (D, OpenFault)>
     ensures limits { IfOk result (λ store. IsStore store.layout store.table) }
+    ensures early { IfOk result (λ store. store.table.group.0 < GROUPS_END) }
     ensures opened { Tells (D.state disk) → IfOk result (λ store. Opens (bytes_of (D.state disk)) at store.layout store.table) }
     ensures cause { Tells (D.state disk) → IfErr result (λ refused. IsOpenFault (bytes_of (D.state disk)) at refused.1) }
     ensures rests { Tells (D.state disk) → MatchResult result (λ store. Untouched (D.state disk) (D.state store.disk)) (λ refused. Untouched (D.state disk) (D.state refused.0)) }

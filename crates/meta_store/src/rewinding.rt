@@ -9,7 +9,7 @@ ghost use Rattle.vdev_map.specs.Places.{slot_place};
 ghost use Rattle.uber_ring.specs.Slots.{IsValid};
 ghost use Rattle.uber_ring.specs.declared.slot.Uber.{Uber};
 ghost use Rattle.zms_units.specs.declared.segments.Group.{Group};
-ghost use Rattle.meta_store.specs.Rewinds.{ArePlaced, IsRewinding, IsRing, SlotGroup, IsTurned, IsTurning, IsTurnedLast, IsRewindable, HasFlush, Adds};
+ghost use Rattle.meta_store.specs.Rewinds.{ArePlaced, IsRewinding, IsRing, SlotGroup, IsTurned, IsTurning, IsTurnedLast, IsRewindable, HasFlush, Adds, HasClosed, ClosesOthers, EndsRewound, IsNoGate, others_in};
 
 use byteorder::{ByteOrder, LittleEndian};
 use uber_ring::valid;
@@ -119,6 +119,7 @@ fn close<D: Disk>(disk: &mut D, group: Group) -> Result<(), Failed>
     ensures durable { Tells (D.state disk.old) → OnOk result (Only (bytes_of (D.state disk.new)) (D.state disk.new).may_leave) }
     ensures reads { Tells (D.state disk.old) → (D.state disk.old).may_leave (bytes_of (D.state disk.old)) }
     ensures flushes { Tells (D.state disk.old) → Adds (D.state disk.old) (D.state disk.new) }
+    ensures noted { Tells (D.state disk.old) → OnOk result ((D.state disk.new).flushes ≡ (D.state disk.old).flushes ++ (D.state disk.new).moment ∷ []) }
     ensures cause { HasCause (D.faults disk.old) (D.faults disk.new) result }
 {
     put(disk, slot_place(group) + GATE, &[CLOSED])
@@ -132,6 +133,8 @@ fn turn<D: Disk>(disk: &mut D, groups: &mut [Option<Group>], group: Group) -> Re
     ensures struck { OnOk result (groups.new ≡ slice_set groups.old (group.0 % 128) None) }
     ensures tells { Tells (D.state disk.old) → Tells (D.state disk.new) }
     ensures flushes { Tells (D.state disk.old) → Adds (D.state disk.old) (D.state disk.new) }
+    ensures noted { Tells (D.state disk.old) → OnOk result ((D.state disk.new).flushes ≡ (D.state disk.old).flushes ++ (D.state disk.new).moment ∷ []) }
+    ensures spares { Tells (D.state disk.old) → Spares IsNoGate (D.state disk.old) (D.state disk.new) }
     ensures cause { HasCause (D.faults disk.old) (D.faults disk.new) result }
 {
     close(disk, group)?;
@@ -151,6 +154,8 @@ fn close_others<D: Disk>(
     ensures done { (uber : Uber) (start : List ℕ) → uber.group ≡ opened → 135168 ≤ length start → IsTurned uber start (D.state disk.old) groups.old → OnOk result (IsTurnedLast uber start (D.state disk.new)) }
     ensures tells { Tells (D.state disk.old) → Tells (D.state disk.new) }
     ensures flushes { Tells (D.state disk.old) → Adds (D.state disk.old) (D.state disk.new) }
+    ensures closed { Tells (D.state disk.old) → OnOk result (HasClosed (others_in groups.old opened) (D.state disk.old) (D.state disk.new)) }
+    ensures spares { Tells (D.state disk.old) → Spares IsNoGate (D.state disk.old) (D.state disk.new) }
     ensures cause { HasCause (D.faults disk.old) (D.faults disk.new) result }
 {
     while let Some(group) = next_to_close(groups, opened) {
@@ -165,6 +170,8 @@ fn turn_ring<D: Disk>(disk: &mut D, opened: Group) -> Result<(), Failed>
     ensures done { (uber : Uber) → uber.group ≡ opened → Tells (D.state disk.old) → IsRewindable uber (D.state disk.old) → OnOk result (IsTurnedLast uber (bytes_of (D.state disk.old)) (D.state disk.new)) }
     ensures tells { Tells (D.state disk.old) → Tells (D.state disk.new) }
     ensures flushes { Tells (D.state disk.old) → Adds (D.state disk.old) (D.state disk.new) }
+    ensures closed { Tells (D.state disk.old) → OnOk result (ClosesOthers opened (D.state disk.old) (D.state disk.new)) }
+    ensures spares { Tells (D.state disk.old) → Spares IsNoGate (D.state disk.old) (D.state disk.new) }
     ensures cause { HasCause (D.faults disk.old) (D.faults disk.new) result }
 {
     let mut groups = [None; SLOTS];
@@ -180,6 +187,9 @@ pub(crate) fn rewind_disk<D: Disk>(disk: &mut D, opened: Group) -> Result<(), Fa
     ensures done { (uber : Uber) → uber.group ≡ opened → Tells (D.state disk.old) → IsValid (bytes_of (D.state disk.old)) uber → 135168 ≤ length (bytes_of (D.state disk.old))
         → OnOk result (IsTurnedLast uber (bytes_of (D.state disk.old)) (D.state disk.new)) }
     ensures flushed { Tells (D.state disk.old) → OnOk result (HasFlush (D.state disk.old) (D.state disk.new)) }
+    ensures ends { (uber : Uber) → uber.group ≡ opened → Tells (D.state disk.old) → IsValid (bytes_of (D.state disk.old)) uber → 135168 ≤ length (bytes_of (D.state disk.old))
+        → OnOk result (EndsRewound uber (D.state disk.old) (D.state disk.new)) }
+    ensures spares { Tells (D.state disk.old) → Spares IsNoGate (D.state disk.old) (D.state disk.new) }
     ensures tells { Tells (D.state disk.old) → Tells (D.state disk.new) }
     ensures cause { HasCause (D.faults disk.old) (D.faults disk.new) result }
 {

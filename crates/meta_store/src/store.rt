@@ -16,7 +16,7 @@ ghost use Rattle.meta_store.specs.Commits.{IsBeforeOrAfter, IsCommitted};
 ghost use Rattle.meta_store.specs.Groups.{Contents, Finds};
 ghost use Rattle.meta_store.specs.NextGroups.{IsLeft, IsNextTable};
 ghost use Rattle.meta_store.specs.Kept.{LiesIn};
-ghost use Rattle.meta_store.specs.Rewinds.{IsRewinding, IsRewound, HasFlush};
+ghost use Rattle.meta_store.specs.Rewinds.{IsRewinding, IsRewound, EndsRewound, HasFlush, IsNoGate};
 ghost use Rattle.meta_store.specs.Stores.{IsStore, HasStore, IsAtRest};
 ghost use Rattle.meta_store.specs.Words.{row_of, units_of, words_in, AreHeldRuns};
 
@@ -83,6 +83,8 @@ impl<D: Disk> MetaStore<D> {
     pub fn layout(&self) -> &Layout
         ensures layout { result.now ≡ self.now.layout }
         ensures limits { IsLayout result.now }
+        // The table is one of a pool of this layout.
+        ensures table { IsStore self.now.layout self.now.table }
     {
         &self.layout
     }
@@ -137,6 +139,11 @@ impl<D: Disk> MetaStore<D> {
         ensures at_rest { (uber : Uber) → Tells (D.state self.old.disk) → HasStore (bytes_of (D.state self.old.disk)) uber self.old.layout self.old.table → LiesIn (bytes_of (D.state self.old.disk)) uber
             → OnOk result (IsAtRest (D.state self.new.disk) self.new.layout self.new.table) }
         ensures flushed { Tells (D.state self.old.disk) → OnOk result (HasFlush (D.state self.old.disk) (D.state self.new.disk)) }
+        // The moment from which on it is the only one, told by the number of flushes.
+        ensures ends { (uber : Uber) → Tells (D.state self.old.disk) → HasStore (bytes_of (D.state self.old.disk)) uber self.old.layout self.old.table → LiesIn (bytes_of (D.state self.old.disk)) uber
+            → OnOk result (EndsRewound uber (D.state self.old.disk) (D.state self.new.disk)) }
+        // Nothing but gates is touched, at any moment.
+        ensures spares { Tells (D.state self.old.disk) → Spares IsNoGate (D.state self.old.disk) (D.state self.new.disk) }
         ensures layout { self.new.layout ≡ self.old.layout }
         ensures table { self.new.table ≡ self.old.table }
         ensures tells { Tells (D.state self.old.disk) → Tells (D.state self.new.disk) }
@@ -183,6 +190,13 @@ impl<D: Disk> MetaStore<D> {
         let group = table.group;
         self.table = table;
         Ok(group)
+    }
+
+    /// How often the device has failed.
+    pub fn faults(&self) -> u64
+        ensures { result ≡ D.faults self.now.disk }
+    {
+        self.disk.faults()
     }
 
     /// Gives the device back.

@@ -1,4 +1,4 @@
-ghost use Rattle.std.specs.Prelude.{◌≡◌, ◌≤◌, length, IfOk, IfErr, OnOk, IsErrOf};
+ghost use Rattle.std.specs.Prelude.{◌≡◌, ◌+◌, ◌≤◌, length, IfOk, IfErr, OnOk, IsErrOf};
 ghost use Rattle.sha2.specs.Sha256.{sha256};
 ghost use Rattle.zms_dev.specs.Bytes.{Outside, Holds};
 ghost use Rattle.zms_dev.specs.Causes.{HasCause, one_more};
@@ -34,6 +34,7 @@ pub fn write_table<D: Disk>(alloc: Global, disk: &mut D, table: &Table) -> Resul
     ensures encoded { Tells (D.state disk.old) → IfOk result (λ uber. IsWrittenAs (bytes_of (D.state disk.new)) uber table.now) }
     // What was written is read again, under every head that the table fits.
     ensures written { Tells (D.state disk.old) → IfOk result (λ uber. (head : Head) → IsTable head table.now → HasTable (bytes_of (D.state disk.new)) head uber table.now) }
+    ensures lies { Tells (D.state disk.old) → OnOk result (table_place table.now.group.0 + len_of table.now ≤ length (bytes_of (D.state disk.new))) }
     ensures spares { Tells (D.state disk.old) → Spares (Outside (table_place table.now.group.0) (len_of table.now)) (D.state disk.old) (D.state disk.new) }
     ensures flushes { Tells (D.state disk.old) → (D.state disk.new).flushes ≡ (D.state disk.old).flushes }
     ensures err { IfErr result (λ fault. IsFailure fault) }
@@ -88,6 +89,7 @@ pub fn read_table<D: Disk>(
     ensures fault { Tells (D.state disk.old) → IfErr result (HasTableFault (bytes_of (D.state disk.old)) head.now uber.now) }
     // Whatever the device does.
     ensures limits { IfOk result (λ table. IsTable head.now table) }
+    ensures group { IfOk result (λ table. table.group ≡ uber.now.group) }
     ensures rests { Tells (D.state disk.old) → Untouched (D.state disk.old) (D.state disk.new) }
     ensures flushes { Tells (D.state disk.old) → (D.state disk.new).flushes ≡ (D.state disk.old).flushes }
     ensures steady { (IsErrOf result TableFault.Failed → ⊥) → D.faults disk.new ≡ D.faults disk.old }
@@ -132,6 +134,7 @@ fn table_of(alloc: Global, bytes: &[u8], uber: &Uber, head: &Head) -> Result<Tab
     ensures right { OnOk result (IsAllRight head.now uber.now bytes.now) }
     ensures table { IfOk result (λ table. table ≡ table_in bytes.now) }
     ensures limits { IfOk result (λ table. IsTable head.now table) }
+    ensures group { IfOk result (λ table. table.group ≡ uber.now.group) }
     ensures err { IfErr result (ShowsFault head.now uber.now bytes.now) }
 {
     let found = whole_digest(bytes);

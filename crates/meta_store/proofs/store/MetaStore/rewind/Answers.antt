@@ -38,3 +38,12 @@ returns-clause-at_rest g c =
     let long : 135168 ≤ length b = omega (arith, ring_lies b uber (head_of s.layout) s.table has.rows lies) in
     on_ok c.rewind_disk.result (IsTurnedLast uber b new) (IsAtRest new s.layout s.table) (λ last. at_rest uber b new s.layout s.table c.self.invariant.vdevs (c.rewind_disk.ensures.tells tells) has lies last)
     (c.rewind_disk.ensures.done uber (group_of_table b uber (head_of s.layout) s.table has.rows.has_table) tells has.valid long))
+
+pub returns-clause-ends : goal.returns-clause-ends
+returns-clause-ends g c =
+    rw (← c.self.view_is)
+    (λ uber tells has lies.
+    let s = c.self.inside in
+    let b = bytes_of (g.D.Disk.state s.disk) in
+    let long : 135168 ≤ length b = omega (arith, ring_lies b uber (head_of s.layout) s.table has.rows lies) in
+    c.rewind_disk.ensures.ends uber (group_of_table b uber (head_of s.layout) s.table has.rows.has_table) tells has.valid long)
