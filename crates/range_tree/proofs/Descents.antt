@@ -41,6 +41,14 @@ half_rises (suc n) = by_test (half_rises n) (leb (2 ^ (half_levels n + 1)) (2 * 
 pub descent_mono : (n m : ℕ) → n ≤ m → descent n ≤ descent m
 descent_mono n m le = omega (arith, half_most m (half_levels n) (omega (arith, half_rises n)))
 
+-- one descent where a power does not fit
+pub descent_below : (n b : ℕ) → 2 * n + 1 < 2 ^ (b + 1) → descent n ≤ 2 * b + 2
+descent_below n b few = by_height (cases_lt b (half_levels n))
+  where
+    by_height : (b < half_levels n) ⊎ (half_levels n ≤ b) → descent n ≤ 2 * b + 2
+    by_height (inr low) = omega (arith, low)
+    by_height (inl high) = absurd (omega (arith, half_rises n, few, pow_mono {i = b + 1} {j = half_levels n} (omega (arith, high))))
+
 pub one_descent : (v n : ℕ) → FewVisits v n → v ≤ descent n
 one_descent v n f = omega (arith, half_most n f.half f.fits, f.few)
 

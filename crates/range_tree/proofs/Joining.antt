@@ -13,7 +13,7 @@ use Rattle.range_tree.specs.declared.node.RunNode.{RunNode}
 use Rattle.range_tree.specs.declared.tree.Tree.{Tree}
 use Rattle.seg_order.proofs.Heights.{all_used}
 use Rattle.range_tree.specs.Nodes.{place_rules}
-use Rattle.range_tree.specs.Kept.{seg_at, placed, units_of, IsTree, Touches}
+use Rattle.range_tree.specs.Kept.{seg_at, placed, units_of, IsTree, Touches, HoldsNoneAround}
 use Rattle.range_tree.specs.Found.{IsFirstEnding}
 use Rattle.range_tree.proofs.Putting.{each_itself}
 use Rattle.range_tree.proofs.Finding.{unit_found, listed_maximal}
@@ -117,6 +117,21 @@ module _ {pool : Pool RunNode} {tree : Tree} (t : IsTree pool tree) (seg : Seg) 
   pub right_free_none : Each (λ one. end_of (seg_at pool one) < end_of seg + 1) (placed pool tree) → (u : ℕ) → end_of seg ≤ u → u ≤ end_of seg → units_of pool tree u ≡ false
   right_free_none f u l h =
       not_true (units_of pool tree u) (λ e. let w = unit_found t u e in omega (arith, w.2, Each-in (λ one. end_of (seg_at pool one) < end_of seg + 1) (placed pool tree) w.0 f w.1))
+
+-- where the first run that ends at a segment's start or behind it starts behind its end, the segment touches none
+module _ {pool : Pool RunNode} {tree : Tree} (t : IsTree pool tree) (seg : Seg) where
+  pub alone_before : (at : ℕ) → IsFirstEnding pool tree seg.start at → end_of seg < (seg_at pool at).start → HoldsNoneAround (units_of pool tree) seg
+  alone_before at f behind u l h =
+      not_true (units_of pool tree u) (λ e.
+      let w = unit_found t u e in
+      elim (Each-in (λ one. (end_of (seg_at pool one) < seg.start) ⊎ ((seg_at pool at).start ≤ (seg_at pool one).start)) (placed pool tree) w.0 f.others w.1) [
+        | inl before ↦ omega (arith, before, w.2)
+        | inr later ↦ omega (arith, later, w.2, behind)
+      ])
+
+  pub alone_last : Each (λ one. end_of (seg_at pool one) < seg.start) (placed pool tree) → HoldsNoneAround (units_of pool tree) seg
+  alone_last f u l h =
+      not_true (units_of pool tree u) (λ e. let w = unit_found t u e in omega (arith, w.2, Each-in (λ one. end_of (seg_at pool one) < seg.start) (placed pool tree) w.0 f w.1))
 
 -- the units of a run, named by where it begins and ends
 pub covers_named : (run : Seg) (start end u : ℕ) → run.start ≡ start → end_of run ≡ end → covers run u ≡ covers (record { start = start; count = end - start }) u

@@ -4,17 +4,38 @@ ghost use Rattle.zms_units.specs.declared.segments.Seg.{Seg};
 ghost use Rattle.zms_units.specs.Segments.{end_of, covers};
 ghost use Rattle.seg_trees.specs.Sets.{HoldsAll, HoldsNone, IsSegment};
 ghost use Rattle.range_tree.specs.Descents.{descent};
+ghost use Rattle.range_tree.specs.Found.{FindsEnding};
 ghost use Rattle.range_tree.specs.Kept.{placed, units_of, IsTree, Touches, HoldsNoneAround};
 
 use crate::looking::{first_ending, holder};
 use crate::node::RunNode;
 use crate::tree::Tree;
-use seg_pool::SegPool;
+use seg_pool::{NodeNo, SegPool};
 use zms_units::Seg;
 
-/// Takes the run out that ends where a segment starts, and tells where the joined run starts.
-fn join_left(pool: &mut SegPool<RunNode>, tree: &mut Tree, seg: Seg) -> (u32, u32)
+/// Whether a segment touches no run, where the first run is known that ends where it starts or behind.
+fn is_alone(pool: &SegPool<RunNode>, tree: &Tree, seg: Seg, found: Option<NodeNo>) -> bool
+    requires tree { IsTree pool.now tree.now }
+    requires segment { IsSegment seg }
+    requires found { FindsEnding pool.now tree.now seg.start found }
+    ensures { result ≡ true → HoldsNoneAround (units_of pool.now tree.now) seg }
+{
+    match found {
+        Some(no) => seg.start + seg.count < pool.node(no).seg.start,
+        None => true,
+    }
+}
+
+/// Takes the run out that ends where a segment starts, and tells where the joined run starts. The first run is known that
+/// ends there or behind.
+fn join_left(
+    pool: &mut SegPool<RunNode>,
+    tree: &mut Tree,
+    seg: Seg,
+    found: Option<NodeNo>,
+) -> (u32, u32)
     requires tree { IsTree pool.old tree.old }
+    requires found { FindsEnding pool.old tree.old seg.start found }
     requires segment { IsSegment seg }
     requires apart { HoldsNone (units_of pool.old tree.old) seg }
     ensures tree { IsTree pool.new tree.new }
@@ -24,17 +45,16 @@ fn join_left(pool: &mut SegPool<RunNode>, tree: &mut Tree, seg: Seg) -> (u32, u3
     ensures free { (u : ℕ) → result.0 ≤ u + 1 → u < seg.start → units_of pool.new tree.new u ≡ false }
     ensures touches { Touches pool.old pool.new (placed pool.old tree.old) (placed pool.new tree.new) }
     ensures nodes { length (placed pool.new tree.new) ≤ length (placed pool.old tree.old) }
-    ensures visits { result.1 ≤ 3 * descent (length (placed pool.old tree.old)) }
+    ensures visits { result.1 ≤ 2 * descent (length (placed pool.old tree.old)) }
 {
-    let (found, visits) = first_ending(pool, tree, seg.start);
     if let Some(no) = found {
         let run = pool.node(no).seg;
         if run.start + run.count == seg.start {
-            let (_, more) = tree.take_out(pool, no);
-            return (run.start, visits + more);
+            let (_, visits) = tree.take_out(pool, no);
+            return (run.start, visits);
         }
     }
-    (seg.start, visits)
+    (seg.start, 0)
 }
 
 /// Takes the run out that starts where a segment ends, and tells where the joined run ends.
@@ -76,14 +96,19 @@ pub(crate) fn add(pool: &mut SegPool<RunNode>, tree: &mut Tree, seg: Seg) -> u32
     ensures nodes { length (placed pool.new tree.new) ≤ length (placed pool.old tree.old) + 1 }
     ensures visits { result ≤ 8 * descent (length (placed pool.old tree.old)) }
 {
-    let (start, left) = join_left(pool, tree, seg);
+    let (found, looked) = first_ending(pool, tree, seg.start);
+    if is_alone(pool, tree, seg, found) {
+        let visits = tree.put(pool, seg);
+        return looked + visits;
+    }
+    let (start, left) = join_left(pool, tree, seg, found);
     let (end, right) = join_right(pool, tree, seg);
     let run = Seg {
         start,
         count: end - start,
     };
     let visits = tree.put(pool, run);
-    left + right + visits
+    looked + left + right + visits
 }
 
 /// Puts a part of a run back, where there is one.

@@ -103,7 +103,7 @@ pub(crate) fn largest(pool: &SegPool<RunNode>, tree: &Tree) -> u32
     ensures { IsLargest (units_of pool.now tree.now) 131072 result }
 {
     match tree.places.root() {
-        Some(top) => pool.node(top).by_place.greatest,
+        Some(top) => pool.node(top).longest,
         None => 0,
     }
 }

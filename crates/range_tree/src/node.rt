@@ -1,23 +1,46 @@
 //! One run as a node of the pool, and the two orders of such nodes.
 ghost use Rattle.std.specs.Prelude.{◌≡◌};
+ghost use Rattle.seg_order.specs.Trees.{IsPlace};
+ghost use Rattle.range_tree.specs.Nodes.{packed, unpacked};
 
 use seg_order::{Links, Order};
+use seg_pool::NodeNo;
 use zms_units::Seg;
 
-/// A run with its links in both orders.
+/// A run with its links in both orders, in 32 bytes. What hangs on a side is kept by `packed`.
 #[derive(Debug, Clone, Copy)]
 pub(crate) struct RunNode {
     pub(crate) seg: Seg,
-    pub(crate) by_place: Links,
-    pub(crate) by_size: Links,
+    place_left: u32,
+    place_right: u32,
+    // The greatest count of the subtree in the order by place; that by size keeps none.
+    pub(crate) longest: u32,
+    size_left: u32,
+    size_right: u32,
+    place_height: u8,
+    size_height: u8,
 }
 
-const UNLINKED: Links = Links {
-    left: None,
-    right: None,
-    height: 0,
-    greatest: 0,
-};
+/// A place or none in four bytes: 0 is none, and else a place is one less.
+fn packed(place: Option<NodeNo>) -> u32
+    requires { IsPlace place }
+    ensures { result ≡ packed place }
+{
+    match place {
+        Some(no) => no.0 + 1,
+        None => 0,
+    }
+}
+
+/// What was packed.
+fn unpacked(link: u32) -> Option<NodeNo>
+    ensures { result ≡ unpacked link }
+{
+    if link == 0 {
+        return None;
+    }
+    Some(NodeNo(link - 1))
+}
 
 impl RunNode {
     /// A run that is in no order.
@@ -26,8 +49,13 @@ impl RunNode {
     {
         RunNode {
             seg,
-            by_place: UNLINKED,
-            by_size: UNLINKED,
+            place_left: 0,
+            place_right: 0,
+            longest: 0,
+            size_left: 0,
+            size_right: 0,
+            place_height: 0,
+            size_height: 0,
         }
     }
 }
@@ -55,11 +83,19 @@ impl Order for ByPlace {
     }
 
     fn links(node: &RunNode) -> Links {
-        node.by_place
+        Links {
+            left: unpacked(node.place_left),
+            right: unpacked(node.place_right),
+            height: node.place_height,
+            greatest: node.longest,
+        }
     }
 
     fn set_links(node: &mut RunNode, links: Links) {
-        node.by_place = links;
+        node.place_left = packed(links.left);
+        node.place_right = packed(links.right);
+        node.longest = links.greatest;
+        node.place_height = links.height;
     }
 
     ghost lawful = { place_lawful };
@@ -82,11 +118,18 @@ impl Order for BySize {
     }
 
     fn links(node: &RunNode) -> Links {
-        node.by_size
+        Links {
+            left: unpacked(node.size_left),
+            right: unpacked(node.size_right),
+            height: node.size_height,
+            greatest: 0,
+        }
     }
 
     fn set_links(node: &mut RunNode, links: Links) {
-        node.by_size = links;
+        node.size_left = packed(links.left);
+        node.size_right = packed(links.right);
+        node.size_height = links.height;
     }
 
     ghost lawful = { size_lawful };

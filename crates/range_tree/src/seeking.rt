@@ -11,8 +11,9 @@ ghost use Rattle.range_tree.specs.Descents.{descent};
 ghost use Rattle.range_tree.specs.Kept.{placed, units_of, IsTree};
 ghost use Rattle.range_tree.specs.Sought.{PointsFrom, IsFirstLong};
 
-use crate::node::RunNode;
+use crate::node::{ByPlace, RunNode};
 use crate::tree::Tree;
+use seg_order::Order;
 use seg_pool::{NodeNo, SegPool};
 use zms_units::Seg;
 
@@ -22,18 +23,18 @@ fn longest(pool: &SegPool<RunNode>, root: Option<NodeNo>) -> u32
     ensures { result ≡ greatest_of place_rules pool.now (nodes_from place_rules pool.now root) }
 {
     match root {
-        Some(top) => pool.node(top).by_place.greatest,
+        Some(top) => pool.node(top).longest,
         None => 0,
     }
 }
 
-/// Is a node long enough, or one on its right?
-fn is_point(pool: &SegPool<RunNode>, node: &RunNode, count: u32) -> bool
-    requires { IsOver place_rules pool.now node.now.by_place.right }
-    ensures long { result ≡ true → (count ≤ node.now.seg.count) ⊎ (count ≤ greatest_of place_rules pool.now (nodes_from place_rules pool.now node.now.by_place.right)) }
-    ensures short { result ≡ false → (node.now.seg.count < count) × (greatest_of place_rules pool.now (nodes_from place_rules pool.now node.now.by_place.right) < count) }
+/// Is a run long enough, or one on its right?
+fn is_point(pool: &SegPool<RunNode>, run: Seg, right: Option<NodeNo>, count: u32) -> bool
+    requires { IsOver place_rules pool.now right }
+    ensures long { result ≡ true → (count ≤ run.count) ⊎ (count ≤ greatest_of place_rules pool.now (nodes_from place_rules pool.now right)) }
+    ensures short { result ≡ false → (run.count < count) × (greatest_of place_rules pool.now (nodes_from place_rules pool.now right) < count) }
 {
-    node.seg.count >= count || longest(pool, node.by_place.right) >= count
+    run.count >= count || longest(pool, right) >= count
 }
 
 /// The node behind which, itself included, the lowest long run at `at` or behind it stands first, on its right side.
@@ -47,14 +48,15 @@ fn turning_point(pool: &SegPool<RunNode>, tree: &Tree, count: u32, at: u32) -> (
     let mut visits = 0;
     while let Some(no) = below {
         let node = pool.node(no);
+        let links = ByPlace::links(node);
         visits += 1;
         if node.seg.start < at {
-            below = node.by_place.right;
+            below = links.right;
         } else {
-            if is_point(pool, node, count) {
+            if is_point(pool, node.seg, links.right, count) {
                 point = Some(no);
             }
-            below = node.by_place.left;
+            below = links.left;
         }
     }
     (point, visits)
@@ -72,8 +74,9 @@ fn first_long(pool: &SegPool<RunNode>, root: NodeNo, count: u32) -> (Seg, u32)
     let mut visits = 1;
     'down: loop {
         let node = pool.node(no);
-        if longest(pool, node.by_place.left) >= count {
-            let Some(left) = node.by_place.left else {
+        let links = ByPlace::links(node);
+        if longest(pool, links.left) >= count {
+            let Some(left) = links.left else {
                 unreachable!()
             };
             no = left;
@@ -83,7 +86,7 @@ fn first_long(pool: &SegPool<RunNode>, root: NodeNo, count: u32) -> (Seg, u32)
         if node.seg.count >= count {
             return (node.seg, visits);
         }
-        let Some(right) = node.by_place.right else {
+        let Some(right) = links.right else {
             unreachable!()
         };
         no = right;
@@ -108,10 +111,11 @@ pub(crate) fn first_from(
         return (None, visits);
     };
     let node = pool.node(no);
+    let links = ByPlace::links(node);
     if node.seg.count >= count {
         return (Some(node.seg), visits);
     }
-    let Some(right) = node.by_place.right else {
+    let Some(right) = links.right else {
         unreachable!()
     };
     let (run, more) = first_long(pool, right, count);

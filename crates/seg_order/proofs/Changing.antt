@@ -1,5 +1,5 @@
 -- What a pool keeps where nothing but links of some nodes changed.
-use Rattle.std.proofs.Common.{◌≡◌, ◌≢◌, ℕ, ◌<◌, Option, Some, None, is_some, IsSome, cond, List, [], ◌∷◌, ◌++◌, length, get_or, refl, sym, ap, subst, ◌∙◌, arith, true≢false}
+use Rattle.std.proofs.Common.{◌≡◌, ◌≢◌, ℕ, ◌<◌, Option, Some, None, is_some, IsSome, true, cond, List, [], ◌∷◌, ◌++◌, length, get_or, refl, sym, ap, subst, ◌∙◌, arith, true≢false}
 use Rattle.std.proofs.lemmas.Bool.{cases_eq}
 use Rattle.std.proofs.lemmas.List.{get_or-set_same, get_or-set_other, get_or_past}
 use Rattle.std.proofs.lemmas.List.Sums.{sum_by-set}
@@ -12,7 +12,7 @@ use Rattle.seg_order.specs.declared.links.Side.TheVariants.{Left, Right}
 use Rattle.seg_order.specs.Rules.{Rules, IsLawful}
 use Rattle.seg_order.specs.Lists.{Each, IsApart, AreApart, Parts}
 use Rattle.seg_order.specs.Sides.{between, other, comes_before, IsBefore}
-use Rattle.seg_order.specs.Trees.{Fork, DifferByAtMost, places, links_of_node, span_of_node, links_at, span_at, greatest_of, stored_height, tree_at, nodes_from, Stands, StandsFrom, IsSorted}
+use Rattle.seg_order.specs.Trees.{Fork, DifferByAtMost, places, links_of_node, span_of_node, links_at, span_at, greatest_of, stored_height, stored_greatest, tree_at, nodes_from, Stands, StandsFrom, IsSorted}
 use Rattle.seg_order.specs.Changes.{IsRelinked, OnlyLinks, Attaches, IsUnder, Joins}
 use Rattle.seg_order.proofs.Apart.{Each-weaker, from_between}
 use Rattle.seg_order.proofs.Standing.{tree_stands, nodes_are, StandsFrom-is, nodes_from-is, stored_height-is, stored_greatest-is, height_from, greatest-append, IsKept, same_kept, Stands-kept, SameFrom, kept_from, Has}
@@ -112,6 +112,15 @@ module _ {N : Type 0} (rules : Rules N) (lawful : IsLawful rules) where
   wider_links touched p f =
       record { relinked = p.relinked; others = λ at apart. p.others at (f at apart); spare = p.spare; used = p.used }
 
+  keeps_node : (o : Option N) → rules.keeps (links_of_node rules o).greatest ≡ true
+  keeps_node None = lawful.keeps_none
+  keeps_node (Some x) = lawful.keeps_kept x
+
+  -- there is room for what a subtree says of its greatest span
+  keeps_stored : (pool : Pool N) (root : Option NodeNo) → rules.keeps (stored_greatest rules pool root) ≡ true
+  keeps_stored pool None = lawful.keeps_none
+  keeps_stored pool (Some at) = keeps_node (node_at pool at.0)
+
   module _ {old new : Pool N} {left right : Option NodeNo} {at : ℕ} (a : Attaches rules old new left right at) where
     was_used : IsSome (node_at old at)
     was_used = subst IsSome (sym a.was) refl
@@ -122,8 +131,13 @@ module _ {N : Type 0} (rules : Rules N) (lawful : IsLawful rules) where
     attached_beside : (k : ℕ) → k ≢ at → node_at new k ≡ node_at old k
     attached_beside k differs = subst (λ p. node_at p k ≡ node_at old k) (sym a.after) (node_beside old at _ k differs)
 
+    kept : rules.keeps a.links.greatest ≡ true
+    kept =
+        subst (λ q. rules.keeps q ≡ true) (sym a.greatest)
+        (lawful.keeps_either _ _ (lawful.keeps_either _ _ (keeps_stored old left) (keeps_stored old right)) (lawful.keeps_span a.node))
+
     attached_links : links_at rules new at ≡ a.links
-    attached_links = ap (links_of_node rules) attached_node ∙ lawful.written a.node a.links
+    attached_links = ap (links_of_node rules) attached_node ∙ lawful.written a.node a.links kept
 
     attached_relinked : (k : ℕ) → IsRelinked rules (node_at old k) (node_at new k)
     attached_relinked k =

@@ -1,6 +1,7 @@
 pub mod Apart
 pub mod Standing
 pub mod Changing
+pub mod Telling
 pub mod Turns
 pub mod Sorting
 pub mod Heights

@@ -3,15 +3,17 @@ use Rattle.std.proofs.Common.{◌≡◌, ℕ, Option, Some, None, IsSome, [], �
 use Rattle.seg_pool.specs.declared.NodeNo.{NodeNo}
 use Rattle.seg_pool.specs.Pool.{Pool, node_at}
 use Rattle.seg_order.specs.declared.links.Side.{Side}
+use Rattle.seg_order.specs.declared.links.Told.{Told}
 use Rattle.seg_order.specs.declared.links.Side.TheVariants.{Left}
 use Rattle.seg_order.specs.Rules.{Rules, IsLawful}
 use Rattle.seg_order.specs.Lists.{IsApart, PutIn, Parts}
-use Rattle.seg_order.specs.Sides.{between}
-use Rattle.seg_order.specs.Trees.{DifferByAtMost, stored_height, nodes_from, IsSorted, IsOver}
-use Rattle.seg_order.specs.Changes.{OnlyLinks, IsUnder, Joins, Inserts, Removes, RemovesFirst}
+use Rattle.seg_order.specs.Sides.{between, other, toward}
+use Rattle.seg_order.specs.Trees.{DifferByAtMost, links_at, stored_height, stored_greatest, nodes_from, IsSorted, IsOver}
+use Rattle.seg_order.specs.Changes.{OnlyLinks, IsUnder, IsOverBoth, Joins, Inserts, Removes, RemovesFirst}
 use Rattle.seg_order.proofs.Apart.{from_between, to_between, EachOf, AreApart-sym}
 use Rattle.seg_order.proofs.Standing.{Has, has, Opened, none_empty, none_stands}
 use Rattle.seg_order.proofs.Changing.{still_used, beside_has, both_links, no_links, under, joined_list, joined_links}
+use Rattle.seg_order.proofs.Telling.{over_both, greatest_stays}
 use Rattle.seg_order.proofs.Sorting.{each_put, each_rest, each_taken, parts_less, put_near, Sorted, comes, sorted_parts, sorted_between, sorted_apart}
 use Rattle.seg_order.proofs.Heights.{Rise, rise, flip_rise, grown, shrunk, all_used}
 
@@ -71,6 +73,10 @@ module _ {N : Type 0} (rules : Rules N) (lawful : IsLawful rules) where
     pub insert_far : stored_height rules mid far ≡ stored_height rules old far
     insert_far = far_has.height
 
+    pub insert_over : {before : Told} → near ≡ toward side (links_at rules old at.0) → far ≡ toward (other side) (links_at rules old at.0) → before.root ≡ near → before.height ≡ stored_height rules old near → before.greatest ≡ stored_greatest rules old near → IsOverBoth rules side mid at.0 before far
+    insert_over one two same h g =
+        over_both rules lawful o (i.links.others at.0 parts_now.at_near) insert_far (greatest_stays rules lawful i.links far o.far_stands far_has.stands far_has.list) one two same h g
+
     pub insert_under : IsUnder rules mid near_now far at.0
     insert_under = under rules (still_used rules lawful i.links at.0 o.in_use) near_has far_has parts_now
 
@@ -101,6 +107,10 @@ module _ {N : Type 0} (rules : Rules N) (lawful : IsLawful rules) where
 
     pub remove_far : stored_height rules mid far ≡ stored_height rules old far
     remove_far = far_left.height
+
+    pub remove_over : {before : Told} → near ≡ toward side (links_at rules old at.0) → far ≡ toward (other side) (links_at rules old at.0) → before.root ≡ near → before.height ≡ stored_height rules old near → before.greatest ≡ stored_greatest rules old near → IsOverBoth rules side mid at.0 before far
+    remove_over one two same h g =
+        over_both rules lawful o (r.links.others at.0 parts_then.at_near) remove_far (greatest_stays rules lawful r.links far o.far_stands far_left.stands far_left.list) one two same h g
 
     pub remove_under : IsUnder rules mid near_now far at.0
     remove_under = under rules (still_used rules lawful r.links at.0 o.in_use) near_left far_left (parts_less r.put parts_then)

@@ -4,10 +4,11 @@ use Rattle.seg_pool.specs.declared.NodeNo.{NodeNo}
 use Rattle.seg_pool.specs.Pool.{Pool, node_at, with_node, used}
 use Rattle.seg_order.specs.declared.links.Links.{Links}
 use Rattle.seg_order.specs.declared.links.Side.{Side}
+use Rattle.seg_order.specs.declared.links.Told.{Told}
 use Rattle.seg_order.specs.Rules.{Rules}
 use Rattle.seg_order.specs.Lists.{IsApart, PutIn, Parts}
-use Rattle.seg_order.specs.Sides.{between}
-use Rattle.seg_order.specs.Trees.{stored_height, stored_greatest, nodes_from, StandsFrom, IsSorted, DifferByAtMost}
+use Rattle.seg_order.specs.Sides.{between, other, toward}
+use Rattle.seg_order.specs.Trees.{links_at, span_at, stored_height, stored_greatest, nodes_from, StandsFrom, IsSorted, DifferByAtMost}
 
 module _ {N : Type 0} (rules : Rules N) where
   -- what was at a place is there still, but for its links
@@ -39,6 +40,14 @@ module _ {N : Type 0} (rules : Rules N) where
     pub near_stands : StandsFrom rules pool near
     pub far_stands : StandsFrom rules pool far
     pub parts : Parts (nodes_from rules pool near) at (nodes_from rules pool far)
+
+  -- a node's links are those over two subtrees, of which the near one has this root, height and greatest span
+  pub record IsOverBoth (side : Side) (pool : Pool N) (at : ℕ) (near : Told) (far : Option NodeNo) : Type 0 where
+    pub goes_near : toward side (links_at rules pool at) ≡ near.root
+    pub goes_far : toward (other side) (links_at rules pool at) ≡ far
+    pub height : (links_at rules pool at).height ≡ max near.height (stored_height rules pool far) + 1
+    pub greatest : (links_at rules pool at).greatest ≡ max (max near.greatest (stored_greatest rules pool far)) (span_at rules pool at)
+    pub balanced : DifferByAtMost 1 near.height (stored_height rules pool far)
 
   -- a node and two subtrees have become one
   pub record Joins (side : Side) (old new : Pool N) (near far : Option NodeNo) (at : ℕ) (root : Option NodeNo) : Type 0 where

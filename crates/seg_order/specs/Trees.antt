@@ -1,5 +1,5 @@
 -- The tree that the links of a pool make below a root, and the list that it stands for.
-use Rattle.std.specs.Prelude.{◌≡◌, ℕ, zero, suc, ◌+◌, ◌*◌, ◌^◌, ◌≤◌, ◌⊎◌, max, Option, Some, None, IsSome, List, [], ◌∷◌, ◌++◌}
+use Rattle.std.specs.Prelude.{◌≡◌, ℕ, zero, suc, ◌+◌, ◌*◌, ◌^◌, ◌<◌, ◌≤◌, ◌⊎◌, max, Option, Some, None, IsSome, List, [], ◌∷◌, ◌++◌}
 use Rattle.seg_pool.specs.declared.NodeNo.{NodeNo}
 use Rattle.seg_pool.specs.Pool.{Pool, node_at}
 use Rattle.seg_order.specs.declared.links.Links.{Links}
@@ -25,6 +25,11 @@ levels (Fork left at right) = max (levels left) (levels right) + 1
 -- two numbers differ by so many at most
 abbrev pub DifferByAtMost : ℕ → ℕ → ℕ → Type 0
 DifferByAtMost most a b = (a ≤ b + most) × (b ≤ a + most)
+
+-- what hangs below a node is none, or a place that a pool can have
+abbrev pub IsPlace : Option NodeNo → Type 0
+IsPlace None = Unit {0}
+IsPlace (Some at) = at.0 < 2 ^ 24
 
 -- the place at a root is in use
 abbrev pub IsInUse : {N : Type 0} → Pool N → Option NodeNo → Type 0

@@ -1,8 +1,8 @@
 //! The links of a node, and what a pool says of them.
-ghost use Rattle.std.specs.Prelude.{◌≡◌, ◌^◌, ◌≤◌, IsSome, length};
+ghost use Rattle.std.specs.Prelude.{◌≡◌, true, ◌^◌, ◌≤◌, IsSome, length};
 ghost use Rattle.seg_pool.specs.Pool.{node_at};
 ghost use Rattle.seg_order.specs.Sides.{other, toward};
-ghost use Rattle.seg_order.specs.Trees.{links_at, stored_height, stored_greatest, IsInUse};
+ghost use Rattle.seg_order.specs.Trees.{links_at, stored_height, stored_greatest, IsPlace, IsInUse};
 
 use crate::Order;
 use seg_pool::{NodeNo, SegPool};
@@ -59,11 +59,57 @@ pub(crate) fn links_of<O: Order>(pool: &SegPool<O::Node>, no: NodeNo) -> Links
 /// How many levels a subtree has.
 pub(crate) fn height<O: Order>(pool: &SegPool<O::Node>, root: Option<NodeNo>) -> u8
     requires { IsInUse pool.now root }
-    ensures { result ≡ stored_height O.rules pool.now root }
+    ensures height { result ≡ stored_height O.rules pool.now root }
+    ensures place { IsPlace root }
 {
     match root {
         Some(at) => links_of::<O>(pool, at).height,
         None => 0,
+    }
+}
+
+/// What a subtree tells the node above it.
+#[derive(Debug, Clone, Copy, Drop)]
+pub(crate) struct Told {
+    pub(crate) root: Option<NodeNo>,
+    pub(crate) height: u8,
+    pub(crate) greatest: u32,
+}
+
+/// What a subtree tells the node above it now.
+pub(crate) fn tell<O: Order>(pool: &SegPool<O::Node>, root: Option<NodeNo>) -> Told
+    requires { IsInUse pool.now root }
+    ensures root { result.root ≡ root }
+    ensures height { result.height ≡ stored_height O.rules pool.now root }
+    ensures greatest { result.greatest ≡ stored_greatest O.rules pool.now root }
+{
+    Told {
+        root,
+        height: height::<O>(pool, root),
+        greatest: greatest::<O>(pool, root),
+    }
+}
+
+fn is_same_root(first: Option<NodeNo>, second: Option<NodeNo>) -> bool
+    ensures { result ≡ true → first ≡ second }
+{
+    match (first, second) {
+        (Some(first), Some(second)) => first.0 == second.0,
+        (None, None) => true,
+        _ => false,
+    }
+}
+
+impl Told {
+    /// Whether the node above is told the same.
+    pub(crate) fn is_same(&self, before: &Told) -> bool
+        ensures root { result ≡ true → self.now.root ≡ before.now.root }
+        ensures height { result ≡ true → self.now.height ≡ before.now.height }
+        ensures greatest { result ≡ true → self.now.greatest ≡ before.now.greatest }
+    {
+        is_same_root(self.root, before.root)
+            && self.height == before.height
+            && self.greatest == before.greatest
     }
 }
 

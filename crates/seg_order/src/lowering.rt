@@ -4,9 +4,9 @@ ghost use Rattle.std.specs.List.{Contains};
 ghost use Rattle.seg_order.specs.Trees.{stored_height, nodes_from, IsOver};
 ghost use Rattle.seg_order.specs.Changes.{Removes, RemovesFirst};
 
-use crate::links::links_of;
+use crate::links::{links_of, tell};
 use crate::raising::side_of;
-use crate::turning::settle;
+use crate::turning::{resettle, settle};
 use crate::{Order, Side};
 use seg_pool::{NodeNo, SegPool};
 
@@ -20,8 +20,9 @@ fn take_first<O: Order>(pool: &mut SegPool<O::Node>, root: NodeNo) -> (NodeNo, O
     let Some(left) = links.left else {
         return (root, links.right, 1);
     };
+    let before = tell::<O>(pool, links.left);
     let (first, rest, visits) = take_first::<O>(pool, left);
-    let top = settle::<O>(pool, Side::Left, root, rest, links.right);
+    let top = resettle::<O>(pool, Side::Left, root, before, rest, links.right);
     (first, Some(top), visits + 1)
 }
 
@@ -59,7 +60,8 @@ pub(crate) fn remove_below<O: Order>(
     let near = links.toward(side);
     let far = links.toward(side.other());
     let Some(below) = near else { unreachable!() };
+    let before = tell::<O>(pool, near);
     let (rest, visits) = remove_below::<O>(pool, below, no);
-    let top = settle::<O>(pool, side, root, rest, far);
+    let top = resettle::<O>(pool, side, root, before, rest, far);
     (Some(top), visits + 1)
 }

@@ -3,7 +3,7 @@ ghost use Rattle.std.specs.Prelude.{◌≡◌, ◌≤◌, ◌<◌, None, Some, I
 ghost use Rattle.std.specs.List.{Contains};
 ghost use Rattle.seg_pool.specs.Pool.{node_at};
 ghost use Rattle.seg_order.specs.Rules.{Rules, IsLawful};
-ghost use Rattle.seg_order.specs.Trees.{nodes_from, Differs, IsOver, FewVisits};
+ghost use Rattle.seg_order.specs.Trees.{nodes_from, Differs, IsPlace, IsOver, FewVisits};
 ghost use Rattle.seg_order.specs.Lists.{PutIn};
 ghost use Rattle.seg_order.specs.Changes.{OnlyLinks};
 ghost use Rattle.seg_order.specs.Looks.{IsFirstFrom, IsFirst};
@@ -35,6 +35,8 @@ pub trait Order {
 
     /// Writes the links of this order, and nothing else.
     fn set_links(node: &mut Self::Node, links: Links)
+        requires left { IsPlace links.left }
+        requires right { IsPlace links.right }
         ensures { node.new ≡ rules.with_links node.old links };
 
     ghost lawful: { IsLawful rules };

@@ -6,8 +6,8 @@ ghost use Rattle.seg_order.specs.Trees.{stored_height, nodes_from, Differs, IsOv
 ghost use Rattle.seg_order.specs.Changes.{Inserts};
 
 use crate::joining::join;
-use crate::links::links_of;
-use crate::turning::settle;
+use crate::links::{links_of, tell};
+use crate::turning::resettle;
 use crate::{Order, Side};
 use seg_pool::{NodeNo, SegPool};
 
@@ -44,7 +44,8 @@ pub(crate) fn insert_below<O: Order>(
     let links = links_of::<O>(pool, at);
     let near = links.toward(side);
     let far = links.toward(side.other());
+    let before = tell::<O>(pool, near);
     let (grown, visits) = insert_below::<O>(pool, near, no);
-    let top = settle::<O>(pool, side, at, Some(grown), far);
+    let top = resettle::<O>(pool, side, at, before, Some(grown), far);
     (top, visits + 1)
 }

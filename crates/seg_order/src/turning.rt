@@ -2,11 +2,11 @@
 ghost use Rattle.std.specs.Prelude.{◌≡◌, ◌+◌, ◌<◌, ◌≤◌, Some};
 ghost use Rattle.seg_order.specs.Sides.{other, toward};
 ghost use Rattle.seg_order.specs.Trees.{links_at, stored_height, DifferByAtMost};
-ghost use Rattle.seg_order.specs.Changes.{IsUnder, Joins};
+ghost use Rattle.seg_order.specs.Changes.{IsUnder, IsOverBoth, Joins};
 ghost use Rattle.seg_order.specs.declared.links.Side.TheVariants.{Left};
 
 use crate::joining::join;
-use crate::links::{height, links_of};
+use crate::links::{Told, height, links_of, tell};
 use crate::{Order, Side};
 use seg_pool::{NodeNo, SegPool};
 
@@ -105,4 +105,26 @@ pub(crate) fn settle<O: Order>(
     }
     join::<O>(pool, side, no, near, far);
     no
+}
+
+/// Puts a node over two subtrees again, of which the near one has changed below it. Where that tells the node what it told
+/// before, the node's links are right as they are, and so are those of all nodes above.
+pub(crate) fn resettle<O: Order>(
+    pool: &mut SegPool<O::Node>,
+    side: Side,
+    no: NodeNo,
+    before: Told,
+    near: Option<NodeNo>,
+    far: Option<NodeNo>,
+) -> NodeNo
+    requires under { IsUnder O.rules pool.old near far no.0 }
+    requires over { IsOverBoth O.rules side pool.old no.0 before far }
+    requires differ { DifferByAtMost 2 (stored_height O.rules pool.old near) (stored_height O.rules pool.old far) }
+    requires low { (stored_height O.rules pool.old near < 255) × (stored_height O.rules pool.old far < 255) }
+    ensures { Joins O.rules side pool.old pool.new near far no.0 (Some result) }
+{
+    if tell::<O>(pool, near).is_same(&before) {
+        return no;
+    }
+    settle::<O>(pool, side, no, near, far)
 }

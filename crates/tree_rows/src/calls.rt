@@ -2,7 +2,7 @@
 
 use crate::both::random_calls;
 use crate::orders::in_order;
-use crate::pools::take_and_give;
+use crate::pools::{grow, take_and_give};
 use crate::runs::{best_of_many, spare_after, vacate};
 use row_tables::{Calls, Words};
 use seg_trees::Steps;
@@ -26,6 +26,7 @@ impl<L: Ledger> RowCalls<L> {
         let name = words.word();
         match (name, words.small(), words.small()) {
             ("pool", Some(room), Some(node)) => take_and_give(alloc, room, node),
+            ("grow", Some(room), Some(more)) => grow(alloc, room, more),
             ("order", Some(key), Some(asked)) => in_order(alloc, key, asked),
             ("reserve", Some(room), _) => spare_after(alloc, room),
             ("best", Some(runs), Some(count)) => {

@@ -24,3 +24,19 @@ pub fn take_and_give(alloc: Global, room: u32, node: u32) -> Result<Option<Strin
     let answer = format!(in alloc; "spare {before} {reserved} {left} {spare} node {seen} {back}")?;
     Ok(Some(answer))
 }
+
+/// `ROOM MORE`: room in a new pool and then for more, and how many nodes are spare at first, between and after. Where there
+/// is no memory for more, none is spare that was not.
+pub fn grow(alloc: Global, room: u32, more: u32) -> Result<Option<String>, AllocError> {
+    if room > MOST || more > MOST {
+        return Ok(None);
+    }
+    let mut pool = SegPool::<u32>::new(alloc);
+    let before = pool.spare();
+    pool.reserve(room)?;
+    let between = pool.spare();
+    let grown = pool.reserve(more).is_ok();
+    let after = pool.spare();
+    let answer = format!(in alloc; "spare {before} {between} {after} grown {grown}")?;
+    Ok(Some(answer))
+}

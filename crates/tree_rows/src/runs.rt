@@ -1,7 +1,8 @@
 //! The trees that cost the logarithm.
 
-ghost use Rattle.std.specs.Prelude.{◌≡◌, true};
-ghost use Rattle.seg_trees.specs.Sets.{IsSegment};
+ghost use Rattle.std.specs.Prelude.{◌≡◌, ◌≤◌, true};
+ghost use Rattle.seg_trees.specs.Kept.{sets_of};
+ghost use Rattle.seg_trees.specs.Sets.{nodes_of, IsSegment, RisesAtMost};
 
 use range_tree::RangeTrees;
 use seg_trees::{SegTrees, Steps};
@@ -39,6 +40,14 @@ fn add_new<L: Ledger>(trees: &mut RangeTrees, seg: Seg, steps: &mut Steps<L>) {
     }
 }
 
+/// The shortest run of at least `count` units, in a tree of a thousand runs at most: 22 nodes are visited at most.
+fn best_of_thousand<L: Ledger>(trees: &RangeTrees, count: u32, steps: &mut Steps<L>) -> Option<Seg>
+    requires { nodes_of (sets_of trees.now.lists 0) ≤ 1000 }
+    ensures { RisesAtMost steps.old steps.new 22 }
+{
+    trees.best(0, count, steps)
+}
+
 /// `RUNS COUNT`: so many runs of one unit at every third, and the shortest run of at least `count` units.
 pub fn best_of_many<L: Ledger>(
     alloc: Global,
@@ -59,7 +68,12 @@ pub fn best_of_many<L: Ledger>(
         add_new(&mut trees, seg, steps);
     }
     let nodes = trees.nodes(0);
-    let answer = match trees.best(0, count, steps) {
+    let found = if nodes <= 1000 {
+        best_of_thousand(&trees, count, steps)
+    } else {
+        trees.best(0, count, steps)
+    };
+    let answer = match found {
         Some(run) => format!(in alloc; "nodes {nodes} best {}:{}", run.start, run.count)?,
         None => format!(in alloc; "nodes {nodes} best none")?,
     };

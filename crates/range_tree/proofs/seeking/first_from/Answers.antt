@@ -1,4 +1,5 @@
 use Rattle.std.proofs.Common.{◌∙◌, ◌+◌, ◌*◌, ◌≤◌, inl, inr, ◌∷◌, ◌++◌, Some, length, length-append, arith, ap, sym, subst}
+use Rattle.seg_order.specs.declared.links.Links.{Links}
 use Rattle.zms_units.specs.Runs.{IsFirstFrom}
 use Rattle.seg_order.specs.Trees.{nodes_from, greatest_of, links_of_node, IsOver}
 use Rattle.seg_order.proofs.Standing.{none_empty, FewVisits-is}
@@ -26,7 +27,7 @@ node-node-requires c =
 pub first_long-more-requires-clause-over : goal.first_long-more-requires-clause-over
 first_long-more-requires-clause-over c =
     let p = subst (PointsFrom c.args.pool.now c.args.count c.args.at (placed c.args.pool.now c.args.tree.now)) c.in-Some.is c.turning_point-point.ensures.point in
-    subst (IsOver place_rules c.args.pool.now) (ap (λ o. (links_of_node place_rules o).right) c.node-node.ensures.node ∙ c.in-Some-right.is) p.points.over
+    subst (IsOver place_rules c.args.pool.now) (ap (λ (q : Links). q.right) (ap (links_of_node place_rules) c.node-node.ensures.node ∙ sym c.links-links.ensures) ∙ c.in-Some-right.is) p.points.over
 
 pub first_long-more-requires-clause-long : goal.first_long-more-requires-clause-long
 first_long-more-requires-clause-long c =
@@ -34,7 +35,7 @@ first_long-more-requires-clause-long c =
     let count = ap (λ o. (seg_of o).count) c.node-node.ensures.node in
     elim p.points.long [
       | inl own ↦ absurd (omega (arith, own, count, c.if-node-count.false))
-      | inr right ↦ omega (arith, right, ap (λ q. greatest_of place_rules c.args.pool.now (nodes_from place_rules c.args.pool.now q)) (ap (λ o. (links_of_node place_rules o).right) c.node-node.ensures.node ∙ c.in-Some-right.is))
+      | inr right ↦ omega (arith, right, ap (λ q. greatest_of place_rules c.args.pool.now (nodes_from place_rules c.args.pool.now q)) (ap (λ (q : Links). q.right) (ap (links_of_node place_rules) c.node-node.ensures.node ∙ sym c.links-links.ensures) ∙ c.in-Some-right.is))
     ]
 
 pub returns-then-node-count-clause-first : goal.returns-then-node-count-clause-first
@@ -47,7 +48,7 @@ pub unreachable-requires : goal.unreachable-requires
 unreachable-requires c =
     let p = subst (PointsFrom c.args.pool.now c.args.count c.args.at (placed c.args.pool.now c.args.tree.now)) c.in-Some.is c.turning_point-point.ensures.point in
     let count = ap (λ o. (seg_of o).count) c.node-node.ensures.node in
-    let none = ap (λ q. greatest_of place_rules c.args.pool.now (nodes_from place_rules c.args.pool.now q)) (ap (λ o. (links_of_node place_rules o).right) c.node-node.ensures.node ∙ c.in_default-right.is) in
+    let none = ap (λ q. greatest_of place_rules c.args.pool.now (nodes_from place_rules c.args.pool.now q)) (ap (λ (q : Links). q.right) (ap (links_of_node place_rules) c.node-node.ensures.node ∙ sym c.links-links.ensures) ∙ c.in_default-right.is) in
     let zero_there = ap (greatest_of place_rules c.args.pool.now) (none_empty place_rules c.args.pool.now) in
     elim p.points.long [
       | inl own ↦ omega (arith, own, count, c.if-node-count.false)
@@ -58,7 +59,7 @@ visits : (c : After-first_long-more) → c.turning_point-point.result.1 + c.firs
 visits c =
     let p = subst (PointsFrom c.args.pool.now c.args.count c.args.at (placed c.args.pool.now c.args.tree.now)) c.in-Some.is c.turning_point-point.ensures.point in
     let q = p.points in
-    let right_is = ap (λ o. (links_of_node place_rules o).right) c.node-node.ensures.node ∙ c.in-Some-right.is in
+    let right_is = ap (λ (q : Links). q.right) (ap (links_of_node place_rules) c.node-node.ensures.node ∙ sym c.links-links.ensures) ∙ c.in-Some-right.is in
     let over : IsOver place_rules c.args.pool.now (Some c.in-Some-right.right) = subst (IsOver place_rules c.args.pool.now) right_is q.over in
     let few = one_descent _ _ (FewVisits-is place_rules c.args.pool.now c.first_long-more.result.1 (Some c.in-Some-right.right) over.stands c.first_long-more.ensures.visits) in
     let one = ap length p.split ∙ length-append p.before p.behind in
@@ -76,6 +77,6 @@ returns-clause-visits c = visits (goal.at.returns-clause-visits c).After-first_l
 pub returns-clause-first : goal.returns-clause-first
 returns-clause-first c =
     let p = subst (PointsFrom c.args.pool.now c.args.count c.args.at (placed c.args.pool.now c.args.tree.now)) c.in-Some.is c.turning_point-point.ensures.point in
-    let right_is = ap (λ o. (links_of_node place_rules o).right) c.node-node.ensures.node ∙ c.in-Some-right.is in
+    let right_is = ap (λ (q : Links). q.right) (ap (links_of_node place_rules) c.node-node.ensures.node ∙ sym c.links-links.ensures) ∙ c.in-Some-right.is in
     point_right c.requires p p.points c.first_long-more.result.0 (omega (arith, ap (λ o. (seg_of o).count) c.node-node.ensures.node, c.if-node-count.false))
     (subst (λ r. IsFirstLong c.args.pool.now c.args.count (nodes_from place_rules c.args.pool.now r) c.first_long-more.result.0) (sym right_is) c.first_long-more.ensures.first)

@@ -4,7 +4,7 @@ use Rattle.seg_order.proofs.Apart.{Each-in}
 use Rattle.seg_order.proofs.Standing.{Opened, opens, in_use, none_empty}
 use Rattle.seg_order.proofs.Sorting.{sorted_distinct, on_side, none_contained}
 use Rattle.seg_order.proofs.Heights.{is_low, all_used}
-use Rattle.seg_order.proofs.Moving.{near_over, remove_far, remove_under, removed}
+use Rattle.seg_order.proofs.Moving.{near_over, remove_far, remove_over, remove_under, removed}
 use Rattle.seg_order.proofs.lowering.+remove_below.Given.{Over}
 use Rattle.seg_order.proofs.lowering.+remove_below.Goals as goal
 use Rattle.seg_order.proofs.lowering.+remove_below.Goals.{After-toward-far}
@@ -49,24 +49,36 @@ remove_below-rest-requires g t c =
     let found = listed g t d (λ e. omega arith) in
     λ κs within. (omega (arith, o.height, e), (within.0, (within.1, (near_over g.O.Order.rules g.met.O.Order.lawful c.requires.over o, subst (λ q. Contains (nodes_from g.O.Order.rules c.args.pool.now q) c.args.no.0) c.in-Some.is found))))
 
-pub settle-top-requires-clause-under : goal.settle-top-requires-clause-under
-settle-top-requires-clause-under g t c =
-    let d = (goal.at.settle-top-requires-clause-under g t c).After-toward-far in
+pub resettle-top-requires-clause-under : goal.resettle-top-requires-clause-under
+resettle-top-requires-clause-under g t c =
+    let d = (goal.at.resettle-top-requires-clause-under g t c).After-toward-far in
     let o = subst (λ q. Opened g.O.Order.rules c.args.pool.now c.side_of-side.result c.args.root q c.toward-far.result) c.in-Some.is (opened g t d) in
     remove_under g.O.Order.rules g.met.O.Order.lawful c.requires.over o c.remove_below-rest.ensures.removes
 
-pub settle-top-requires-clause-differ : goal.settle-top-requires-clause-differ
-settle-top-requires-clause-differ g t c =
-    let d = (goal.at.settle-top-requires-clause-differ g t c).After-toward-far in
+pub tell-before-requires : goal.tell-before-requires
+tell-before-requires g t c =
+    let d = (goal.at.tell-before-requires g t c).After-toward-far in
+    let o = subst (λ q. Opened g.O.Order.rules c.args.pool.now c.side_of-side.result c.args.root q c.toward-far.result) c.in-Some.is (opened g t d) in
+    in_use g.O.Order.rules c.args.pool.now (Some c.in-Some.below) o.near_stands
+
+pub resettle-top-requires-clause-over : goal.resettle-top-requires-clause-over
+resettle-top-requires-clause-over g t c =
+    let d = (goal.at.resettle-top-requires-clause-over g t c).After-toward-far in
+    let o = subst (λ q. Opened g.O.Order.rules c.args.pool.now c.side_of-side.result c.args.root q c.toward-far.result) c.in-Some.is (opened g t d) in
+    remove_over g.O.Order.rules g.met.O.Order.lawful c.requires.over o c.remove_below-rest.ensures.removes (cc) (cc) c.tell-before.ensures.root c.tell-before.ensures.height c.tell-before.ensures.greatest
+
+pub resettle-top-requires-clause-differ : goal.resettle-top-requires-clause-differ
+resettle-top-requires-clause-differ g t c =
+    let d = (goal.at.resettle-top-requires-clause-differ g t c).After-toward-far in
     let o = subst (λ q. Opened g.O.Order.rules c.args.pool.now c.side_of-side.result c.args.root q c.toward-far.result) c.in-Some.is (opened g t d) in
     let b = o.balanced in
     let r = c.remove_below-rest.ensures.removes in
     let far = remove_far g.O.Order.rules g.met.O.Order.lawful c.requires.over o r in
     omega (arith, b, far, r.no_lower, r.no_higher)
 
-pub settle-top-requires-clause-low : goal.settle-top-requires-clause-low
-settle-top-requires-clause-low g t c =
-    let d = (goal.at.settle-top-requires-clause-low g t c).After-toward-far in
+pub resettle-top-requires-clause-low : goal.resettle-top-requires-clause-low
+resettle-top-requires-clause-low g t c =
+    let d = (goal.at.resettle-top-requires-clause-low g t c).After-toward-far in
     let o = subst (λ q. Opened g.O.Order.rules c.args.pool.now c.side_of-side.result c.args.root q c.toward-far.result) c.in-Some.is (opened g t d) in
     let r = c.remove_below-rest.ensures.removes in
     let far = remove_far g.O.Order.rules g.met.O.Order.lawful c.requires.over o r in
@@ -82,7 +94,7 @@ pub returns-clause-removes : goal.returns-clause-removes
 returns-clause-removes g t c =
     let d = (goal.at.returns-clause-removes g t c).After-toward-far in
     let o = subst (λ q. Opened g.O.Order.rules c.args.pool.now c.side_of-side.result c.args.root q c.toward-far.result) c.in-Some.is (opened g t d) in
-    removed g.O.Order.rules g.met.O.Order.lawful c.requires.over o c.remove_below-rest.ensures.removes c.settle-top.ensures
+    removed g.O.Order.rules g.met.O.Order.lawful c.requires.over o c.remove_below-rest.ensures.removes c.resettle-top.ensures
 
 pub returns-clause-visits : goal.returns-clause-visits
 returns-clause-visits g t c =

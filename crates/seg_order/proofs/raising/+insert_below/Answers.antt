@@ -6,7 +6,7 @@ use Rattle.seg_order.proofs.Apart.{from_between, EachOf}
 use Rattle.seg_order.proofs.Standing.{Opened, opens, in_use}
 use Rattle.seg_order.proofs.Sorting.{comes, side_comes, sorted_distinct}
 use Rattle.seg_order.proofs.Heights.{is_low}
-use Rattle.seg_order.proofs.Moving.{none_under, inserted_alone, near_over, insert_far, insert_under, inserted}
+use Rattle.seg_order.proofs.Moving.{none_under, inserted_alone, near_over, insert_far, insert_over, insert_under, inserted}
 use Rattle.seg_order.proofs.raising.+insert_below.Given.{Over}
 use Rattle.seg_order.proofs.raising.+insert_below.Goals as goal
 use Rattle.seg_order.proofs.raising.+insert_below.Goals.{After-toward-far}
@@ -55,15 +55,26 @@ insert_below-visits-requires g t c =
     let v : IsOver g.O.Order.rules c.args.pool.now (Some c.in-Some.at) = subst (IsOver g.O.Order.rules c.args.pool.now) c.in-Some.is c.requires.over in
     λ κs within. (omega (arith, o.height, e), (within.0, (within.1, (near_over g.O.Order.rules g.met.O.Order.lawful v o, (c.requires.node, (differs g t d).near)))))
 
-pub settle-top-requires-clause-under : goal.settle-top-requires-clause-under
-settle-top-requires-clause-under g t c =
-    let d = (goal.at.settle-top-requires-clause-under g t c).After-toward-far in
+pub resettle-top-requires-clause-under : goal.resettle-top-requires-clause-under
+resettle-top-requires-clause-under g t c =
+    let d = (goal.at.resettle-top-requires-clause-under g t c).After-toward-far in
     let v : IsOver g.O.Order.rules c.args.pool.now (Some c.in-Some.at) = subst (IsOver g.O.Order.rules c.args.pool.now) c.in-Some.is c.requires.over in
     insert_under g.O.Order.rules g.met.O.Order.lawful v (opened g t d) (turn g t d) c.insert_below-visits.ensures.inserts
 
-pub settle-top-requires-clause-differ : goal.settle-top-requires-clause-differ
-settle-top-requires-clause-differ g t c =
-    let d = (goal.at.settle-top-requires-clause-differ g t c).After-toward-far in
+pub tell-before-requires : goal.tell-before-requires
+tell-before-requires g t c =
+    let d = (goal.at.tell-before-requires g t c).After-toward-far in
+    in_use g.O.Order.rules c.args.pool.now c.toward-near.result (opened g t d).near_stands
+
+pub resettle-top-requires-clause-over : goal.resettle-top-requires-clause-over
+resettle-top-requires-clause-over g t c =
+    let d = (goal.at.resettle-top-requires-clause-over g t c).After-toward-far in
+    let v : IsOver g.O.Order.rules c.args.pool.now (Some c.in-Some.at) = subst (IsOver g.O.Order.rules c.args.pool.now) c.in-Some.is c.requires.over in
+    insert_over g.O.Order.rules g.met.O.Order.lawful v (opened g t d) (turn g t d) c.insert_below-visits.ensures.inserts (cc) (cc) c.tell-before.ensures.root c.tell-before.ensures.height c.tell-before.ensures.greatest
+
+pub resettle-top-requires-clause-differ : goal.resettle-top-requires-clause-differ
+resettle-top-requires-clause-differ g t c =
+    let d = (goal.at.resettle-top-requires-clause-differ g t c).After-toward-far in
     let v : IsOver g.O.Order.rules c.args.pool.now (Some c.in-Some.at) = subst (IsOver g.O.Order.rules c.args.pool.now) c.in-Some.is c.requires.over in
     let o = opened g t d in
     let b = o.balanced in
@@ -71,9 +82,9 @@ settle-top-requires-clause-differ g t c =
     let far = insert_far g.O.Order.rules g.met.O.Order.lawful v o (turn g t d) i in
     omega (arith, b, far, i.no_lower, i.no_higher)
 
-pub settle-top-requires-clause-low : goal.settle-top-requires-clause-low
-settle-top-requires-clause-low g t c =
-    let d = (goal.at.settle-top-requires-clause-low g t c).After-toward-far in
+pub resettle-top-requires-clause-low : goal.resettle-top-requires-clause-low
+resettle-top-requires-clause-low g t c =
+    let d = (goal.at.resettle-top-requires-clause-low g t c).After-toward-far in
     let v : IsOver g.O.Order.rules c.args.pool.now (Some c.in-Some.at) = subst (IsOver g.O.Order.rules c.args.pool.now) c.in-Some.is c.requires.over in
     let o = opened g t d in
     let i = c.insert_below-visits.ensures.inserts in
@@ -90,8 +101,8 @@ pub returns-clause-inserts : goal.returns-clause-inserts
 returns-clause-inserts g t c =
     let d = (goal.at.returns-clause-inserts g t c).After-toward-far in
     let v : IsOver g.O.Order.rules c.args.pool.now (Some c.in-Some.at) = subst (IsOver g.O.Order.rules c.args.pool.now) c.in-Some.is c.requires.over in
-    subst (λ r. Inserts g.O.Order.rules c.args.pool.now r c.args.no.0 c.settle-top.new.pool (Some c.settle-top.result)) (sym c.in-Some.is)
-    (inserted g.O.Order.rules g.met.O.Order.lawful v (opened g t d) (turn g t d) c.insert_below-visits.ensures.inserts c.settle-top.ensures)
+    subst (λ r. Inserts g.O.Order.rules c.args.pool.now r c.args.no.0 c.resettle-top.new.pool (Some c.resettle-top.result)) (sym c.in-Some.is)
+    (inserted g.O.Order.rules g.met.O.Order.lawful v (opened g t d) (turn g t d) c.insert_below-visits.ensures.inserts c.resettle-top.ensures)
 
 pub returns-clause-visits : goal.returns-clause-visits
 returns-clause-visits g t c =
