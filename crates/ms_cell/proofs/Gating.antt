@@ -1,10 +1,12 @@
 -- One turn at the gate: what happens there happens at no metaslab, and what a holder that has seen a beginning of the gate's
 -- journal knows of its groups.
-use Rattle.std.proofs.Common.{◌≡◌, ℕ, ◌≤◌, ◌<◌, true, false, Bool, cond, List, [], ◌∷◌, ◌++◌, refl, sym, ap, ◌∙◌, subst, arith, Option, Some, None}
-use Rattle.std.specs.Prelude.{◌==◌, IfSome}
+use Rattle.std.proofs.Common.{◌≡◌, ℕ, ◌+◌, ◌≤◌, ◌<◌, true, false, Bool, leb, ⊎_elim, cond, List, [], ◌∷◌, ◌++◌, refl, sym, ap, ◌∙◌, subst, arith, Option, Some, None}
+use Rattle.std.specs.Prelude.{◌==◌, ◌↔◌, IsTrue, IfSome}
 use Rattle.std.specs.List.{fold}
+use Rattle.std.proofs.lemmas.Bool.Decides.{leb_tells}
 use Rattle.std.specs.Option.{option_to_list}
 use Rattle.zms_units.specs.declared.segments.Group.{Group}
+use Rattle.lane_steps.proofs.Steps.{prefix_trans}
 use Rattle.turn_cell.specs.Notes.{Owns, IsPrefix, StandsFor, with_notes, notes_at}
 use Rattle.turn_cell.specs.Known.{Known}
 use Rattle.turn_cell.specs.Lanes.{Step, Went}
@@ -17,10 +19,12 @@ use Rattle.ms_model.specs.declared.notes.Noted.{Noted}
 use Rattle.ms_model.specs.declared.notes.GateNote.{GateNote}
 use Rattle.ms_model.specs.declared.notes.GateNote.TheVariants.{Closed, Settled}
 use Rattle.ms_model.proofs.GateGroups.{rises}
-use Rattle.txg_gate.specs.GateState.{GateState}
+use Rattle.txg_gate.specs.GateState.{GateState, open_of, synced_of, IsQuiesced}
+use Rattle.txg_gate.proofs.Holds.{holds_settled}
 use Rattle.ms_cell.specs.Turns.{Turns}
 use Rattle.ms_cell.specs.Passes.{Passes, Seated}
 use Rattle.ms_cell.specs.Journey.{Journey, TurnedGate}
+use Rattle.ms_cell.specs.GateAnswers.{IsClosedBefore, QuiescedAnswer}
 use Rattle.ms_cell.proofs.Lifting.{went_still}
 use Rattle.ms_cell.proofs.Groups.{owned_same}
 
@@ -77,6 +81,9 @@ told : (x : ℕ) (h : List GateNote) → fold synced_by x (notes_at gate_right 0
 told x [] = refl
 told x (note ∷ h) = told_step (0 == gate_right note) x note h (synced_stays x note) (λ y. told y h)
 
+pub synced_notes : (opened : ℕ) (h : List GateNote) → fold synced_by opened (notes_at gate_right 0 h) ≡ synced_group opened h
+synced_notes opened h = told opened h
+
 pub synced_told : (opened : ℕ) (h j : List GateNote) → notes_at gate_right 0 h ≡ notes_at gate_right 0 j → synced_group opened h ≡ synced_group opened j
 synced_told opened h j e = sym (told opened h) ∙ (ap (λ l. fold synced_by opened l) e ∙ told opened j)
 
@@ -108,11 +115,12 @@ keeper_synced t p now took m x same opens s takes whole =
     (synced_told t.opened p.gate.seen x.notes (owned_same gate_right 0 p.gate.own took.own p.gate.seen x.notes (ap (λ (k : Known GateNote Group). k.own) takes) seated.gate.own owns))
 
 pub keeper_closed : (t : Turns) (p now : Passes) (m x y : GateState) (group : ℕ) → x ≡ m → y ≡ m → p ≡ now → IsPrefix p.gate.seen m.notes → y.opened ≡ t.opened → IsGateLegal y.opened y.notes
-    → group < open_group t.opened now.gate.seen → group < open_group t.opened x.notes
+    → IsClosedBefore t.opened group now.gate.seen → group < open_group t.opened x.notes
 keeper_closed t p now m x y group same other opens begins opened legal closed =
     let lawful : IsGateLegal t.opened m.notes = subst (λ (l : List GateNote). IsGateLegal t.opened l) (ap (λ (k : GateState). k.notes) other) (subst (λ (o : ℕ). IsGateLegal o y.notes) opened legal) in
-    let below : group < open_group t.opened p.gate.seen = subst (λ (q : Passes). group < open_group t.opened q.gate.seen) (sym opens) closed in
-    subst (λ (k : GateState). group < open_group t.opened k.notes) (sym same) (omega (arith, below, open_grows t.opened p.gate.seen m.notes begins lawful))
+    let before : IsClosedBefore t.opened group p.gate.seen = subst (λ (q : Passes). IsClosedBefore t.opened group q.gate.seen) (sym opens) closed in
+    let grows = open_grows t.opened before.before m.notes (prefix_trans before.before p.gate.seen m.notes before.begins begins) lawful in
+    subst (λ (k : GateState). group < open_group t.opened k.notes) (sym same) (omega (arith, before.closed, grows))
 
 -- a pass of the gate that was told what another had seen
 pub told_gate : (right : ℕ) (t : Turns) (p now : Passes) (d : Known GateNote Group) → p ≡ now → Seated right t now → Went gate_right right [] p.gate d → Journey right [] now (record p { gate = d })
@@ -126,3 +134,27 @@ told_gate right t p now d opens s went =
         at = λ k x y e f. subst (λ (z : Known Noted _). Went right_of right [] x z) (one_item p.metaslabs k x y e f) (went_still right t p k x seated e);
       };
     })
+
+-- an open group that is not the third above the settled one is below it
+pub may_close : (group opens synced o s : ℕ) → group ≡ opens → opens ≡ o → synced ≡ s → opens ≤ synced + 3 → (opens ≡ synced + 3 → ⊥) → (group ≡ o) × (group < s + 3)
+may_close group opens synced o s is open_is synced_is near ne = (
+  is ∙ open_is,
+  ⊎_elim
+      (λ (t : (leb (opens + 1) (synced + 3) ≡ true) × (opens + 1 ≤ synced + 3)). omega (arith, t.1))
+      (λ (t : (leb (opens + 1) (synced + 3) ≡ false) × (synced + 3 < opens + 1)). absurd (ne (omega (arith, t.1))))
+      (leb_tells (opens + 1) (synced + 3)),
+)
+
+pub quiesced_so : (opened : ℕ) (group : Group) (quiesced : Bool) (g : GateState) → g.opened ≡ opened → synced_of g < open_of g → IsTrue quiesced ↔ IsQuiesced g group.0
+    → QuiescedAnswer opened group quiesced g.notes None
+quiesced_so opened group quiesced g is ahead answer = record {
+  quiet = refl;
+  gate = g;
+  opened_is = is;
+  notes = refl;
+  answer = answer;
+  closed = λ yes. subst (λ (o : ℕ). group.0 < open_group o g.notes) is (answer.0 yes).0;
+  settled = λ le.
+      let low : group.0 ≤ synced_of g = subst (λ (o : ℕ). group.0 ≤ synced_group o g.notes) (sym is) le in
+      answer.1 (omega (arith, low, ahead), λ k under. holds_settled g k (omega (arith, low)));
+}

@@ -40,6 +40,13 @@ collected_leaves : (s : ℕ) (act : Act) → is_keepers act ≡ false → collec
 collected_leaves s (Collect _) e = absurd (cc)
 collected_leaves s _ e = refl
 
+-- so the keeper's notes tell the groups
+pub settled_notes : (o : Origin) (h : List Noted) → fold (λ x (n : Noted). settled_by x n.act) o.opened (notes_at right_of 0 h) ≡ settled_group o h
+settled_notes o h = told settled_by settled_leaves o.opened h
+
+pub collected_notes : (o : Origin) (h : List Noted) → fold (λ x (n : Noted). collected_by x n.act) o.opened (notes_at right_of 0 h) ≡ collected_group o h
+collected_notes o h = told collected_by collected_leaves o.opened h
+
 pub settled_told : (o : Origin) (h j : List Noted) → notes_at right_of 0 h ≡ notes_at right_of 0 j → settled_group o h ≡ settled_group o j
 settled_told o h j e =
     sym (told settled_by settled_leaves o.opened h) ∙ (ap (λ l. fold (λ z (n : Noted). settled_by z n.act) o.opened l) e ∙ told settled_by settled_leaves o.opened j)

@@ -7,3 +7,4 @@ pub mod Refusals
 pub mod Keeping
 pub mod Ending
 pub mod Bases
+pub mod JournalLaws

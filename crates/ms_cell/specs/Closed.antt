@@ -10,7 +10,7 @@ use Rattle.turn_cell.specs.Notes.{Ends}
 use Rattle.turn_cell.specs.Known.{Known}
 use Rattle.turn_cell.specs.declared.kept.TheConstants.{MAX_RIGHT}
 use Rattle.turn_passes.specs.Pairs.{Each}
-use Rattle.ms_model.specs.Parts.{right_of, gate_right}
+use Rattle.ms_model.specs.Parts.{right_of, gate_right, HaveLanes, IsByLane}
 use Rattle.ms_model.specs.Legal.{IsLegal}
 use Rattle.ms_model.specs.declared.notes.Noted.{Noted}
 use Rattle.ms_model.specs.Gates.{IsGateLegal}
@@ -37,16 +37,23 @@ pub record StandsBy (vdevs : List VdevRow) (opened number : ℕ) (base : List Se
 pub record BasesStand (bases : List (List Seg)) (p : Passes) : Type 0 where
   pub each : Each (λ k base c. (s : _) × ((c.fixed ≡ Some s) × (s.base ≡ base))) bases p.metaslabs
 
+-- the journal is legal, and each note carries a lane from 1 to 16
+pub record IsLawful (m : MsState) : Type 0 where
+  pub legal : IsLegal (origin_of m) m.notes
+  pub lanes : HaveLanes m.notes
+
 -- what the turns of closed cells hand back, by the passes that closed them: each journal is legal, needs rights 0 to 16 alone,
 -- and has of each right of the passes just the notes that they had; each metaslab is the one that its place stands for
 pub record AreClosed (t : Turns) (p : Passes) (gate : GateState) (metaslabs : List MsState) : Type 0 where
   pub count : length metaslabs ≡ length t.metaslabs
+  pub passes : length p.metaslabs ≡ length t.metaslabs
   pub opened : gate.opened ≡ t.opened
   pub gate_ends : Ends gate_right p.gate.own p.gate.seen gate.notes
   pub gate_legal : IsGateLegal gate.opened gate.notes
+  pub gate_lanes : All IsByLane gate.notes
   pub gate_rights : All (λ n. gate_right n ≤ MAX_RIGHT) gate.notes
   pub ends : Each (λ k c m. Ends right_of c.own c.seen m.notes) p.metaslabs metaslabs
   pub stand : Each (λ k c m. c.fixed ≡ Some (standing_of m)) p.metaslabs metaslabs
   pub known : (k : ℕ) (m : MsState) → slice_get metaslabs k ≡ Some m → StandsAt t.vdevs t.opened k (standing_of m)
-  pub legal : (k : ℕ) (m : MsState) → slice_get metaslabs k ≡ Some m → IsLegal (origin_of m) m.notes
+  pub lawful : (k : ℕ) (m : MsState) → slice_get metaslabs k ≡ Some m → IsLawful m
   pub rights : (k : ℕ) (m : MsState) → slice_get metaslabs k ≡ Some m → All (λ n. right_of n ≤ MAX_RIGHT) m.notes

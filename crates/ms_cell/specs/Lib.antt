@@ -4,3 +4,6 @@ pub mod Journey
 pub mod Answers
 pub mod GateAnswers
 pub mod Closed
+pub mod Journals
+pub mod Laws
+pub mod Loads

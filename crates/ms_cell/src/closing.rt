@@ -1,10 +1,8 @@
 //! The cells, closed at the end.
 ghost use Rattle.std.specs.Prelude.{◌≡◌, ◌≤◌, [], length, vec_capacity};
 ghost use Rattle.std.specs.List.{All};
-ghost use Rattle.ms_model.specs.Legal.{IsLegal};
-ghost use Rattle.ms_core.specs.State.{origin_of};
 ghost use Rattle.ms_cell.specs.Passes.{AreIdle};
-ghost use Rattle.ms_cell.specs.Closed.{AreClosed};
+ghost use Rattle.ms_cell.specs.Closed.{AreClosed, IsLawful};
 
 use crate::cells::{CellPasses, Cells};
 use ms_core::Metaslab;
@@ -41,9 +39,9 @@ pub fn close_cells<R: SegTrees + Drop, W: Wait>(
     (gate, metaslabs)
 }
 
-// Each journal is legal, as each metaslab tells.
+// Each journal is legal and of lanes, as each metaslab tells.
 fn look_over<R: SegTrees>(metaslabs: &[Metaslab<R>])
-    ensures { All (λ m. IsLegal (origin_of m) m.notes) metaslabs.now }
+    ensures { All IsLawful metaslabs.now }
 {
     for metaslab in metaslabs {
         let _ = metaslab.settled();

@@ -6,7 +6,7 @@ ghost use Rattle.txg_gate.specs.Closings.{closings_of};
 ghost use Rattle.txg_gate.specs.GateState.{GateState, IsQuiesced};
 ghost use Rattle.ms_cell.specs.Passes.{Seated};
 ghost use Rattle.ms_cell.specs.Journey.{TurnedGate};
-ghost use Rattle.ms_cell.specs.GateAnswers.{CloseAnswer, SettledAnswer, QuiescedAnswer};
+ghost use Rattle.ms_cell.specs.GateAnswers.{CloseAnswer, SettledAnswer, QuiescedAnswer, IsClosedBefore};
 
 use crate::answers::CloseFault;
 use crate::cells::{CellPasses, Cells};
@@ -61,6 +61,8 @@ pub fn close_open_at<R: SegTrees, W: Wait>(
         cells.gate.give(held, &mut passes.gate, None);
         return Err(CloseFault::Memory);
     }
+    // The open group is at most the third above the settled one.
+    let _ = gate.synced();
     match gate.close_open(lane) {
         Ok(group) => {
             let note = GateNote::Closed { lane, group };
@@ -85,13 +87,16 @@ pub fn quiesced_at<R: SegTrees, W: Wait>(
     ensures { (right : ℕ) → Seated right cells.now passes.old → TurnedGate right (QuiescedAnswer cells.now.opened group result) passes.old passes.new }
 {
     let held = cells.gate.take(rt, &mut passes.gate);
-    let quiesced = held.value().quiesced(group);
+    let gate = held.value();
+    // The open group is above the settled one.
+    let _ = gate.synced();
+    let quiesced = gate.quiesced(group);
     cells.gate.give(held, &mut passes.gate, None);
     quiesced
 }
 
 /// Settles the next closed group. The keeper has every settling among its own notes, so it knows which group is next; that it
-/// is closed it has seen. Takes no memory.
+/// is closed it has seen, as from `quiesced_at`. Takes no memory.
 pub fn settled_at<R: SegTrees, W: Wait>(
     rt: &W,
     cells: &Cells<R>,
@@ -99,7 +104,7 @@ pub fn settled_at<R: SegTrees, W: Wait>(
     group: Group,
 )
     requires next { group.0 ≡ synced_group cells.now.opened passes.old.gate.seen + 1 }
-    requires closed { group.0 < open_group cells.now.opened passes.old.gate.seen }
+    requires closed { IsClosedBefore cells.now.opened group.0 passes.old.gate.seen }
     requires seated { Seated 0 cells.now passes.old }
     ensures { TurnedGate 0 (SettledAnswer cells.now.opened group) passes.old passes.new }
 {

@@ -9,7 +9,7 @@
 //! `make_cells` makes the cells of a layout, each metaslab from its base. `next_cells` splits the passes of one right off the
 //! rest, `join_cells` puts passes together, and `tell_at` and `tell_gate` hand on what one holder has seen. `close_cells`
 //! ends every turn, and says of which rights each journal has all notes (`specs/Closed.antt`). No call takes two turns at
-//! once.
+//! once. What the closed journals say of each holder is in `laws`.
 #![tactic(auto)]
 
 mod acts;
@@ -19,6 +19,8 @@ mod closing;
 mod gates;
 mod keeper;
 mod lanes;
+pub mod laws;
+mod loader;
 mod making;
 mod opening;
 mod turns;
@@ -29,5 +31,6 @@ pub use closing::close_cells;
 pub use gates::{close_open_at, hold_at, quiesced_at, release_at, settled_at};
 pub use keeper::{collect_at, load_at, settle_at};
 pub use lanes::{free_at, grant_at, look_at, try_free_at, try_grant_at, unalloc_at};
+pub use loader::{LoadFault, Loader};
 pub use making::{join_cells, next_cells, tell_at, tell_gate};
 pub use opening::make_cells;
