@@ -134,10 +134,10 @@ decimal_plain n fits =
     unpadded_at zero fits e = ap length (decimal_digit 0 (omega arith))
     unpadded_at (suc n) fits e = absurd (omega (arith, first_decimal (suc n) (omega arith) fits))
 
-pub plain_of : (digits : List ℕ) (n : ℕ) → n < 2 ^ 63 → decimal n ≡ digits → IsPlain digits
+pub plain_of : (digits : List ℕ) (n : ℕ) → n < 2 ^ 64 → decimal n ≡ digits → IsPlain digits
 plain_of digits n fits is = subst IsPlain is (decimal_plain n (omega arith))
 
-pub plain_utf8 : (digits : List ℕ) (n : ℕ) → n < 2 ^ 63 → decimal n ≡ digits → IsUtf8 digits
+pub plain_utf8 : (digits : List ℕ) (n : ℕ) → n < 2 ^ 64 → decimal n ≡ digits → IsUtf8 digits
 plain_utf8 digits n fits is = subst IsUtf8 is (IsUtf8-from_ascii (decimal n) (IsAscii-decimal n (omega arith)))
 
 -- what is plain, and was read as a number, is what that number prints
@@ -151,7 +151,7 @@ parsed_is digits (Err e) n plain parsed is = cc
 pub plain_number : {E : Type 0} (digits : List ℕ) (r : Result ℕ E) (n : ℕ) → IsPlain digits → ParsesUnsigned 64 10 digits r → r ≡ Ok n → decimal n ≡ digits
 plain_number digits r n plain parses is = parsed_is digits r n plain (parse_digits own_digits 64 digits r parses plain.digits_only) is
 
-pub number_read : {E : Type 0} (digits : List ℕ) (r : Result ℕ E) (n : ℕ) → ParsesUnsigned 64 10 digits r → n < 2 ^ 63 → decimal n ≡ digits → r ≡ Ok n
+pub number_read : {E : Type 0} (digits : List ℕ) (r : Result ℕ E) (n : ℕ) → ParsesUnsigned 64 10 digits r → n < 2 ^ 64 → decimal n ≡ digits → r ≡ Ok n
 number_read digits r n parses fits is = parse-decimal 64 n digits r (omega arith) (omega arith) (sym is) parses
 
 pub if_none : {A : Type 0} (r : Option A) (P : Type 0) → P → IfNone r P

@@ -105,10 +105,10 @@ fn is_plain(digits: &[u8]) -> bool
     are_digits(digits) && !digits.is_empty() && (digits.len() == 1 || digits[0] != b'0')
 }
 
-/// A number as it is printed: no sign, no leading zero, below 2^63.
-pub fn number(digits: &[u8]) -> Option<u64>
-    ensures some { IfSome result (λ n. (decimal n ≡ digits.now) × (n < 2 ^ 63)) }
-    ensures none { IfNone result ((n : ℕ) → n < 2 ^ 63 → decimal n ≡ digits.now → ⊥) }
+/// A number as it is printed: no sign, no leading zero, below 2^64.
+pub fn numeral(digits: &[u8]) -> Option<u64>
+    ensures some { IfSome result (λ n. decimal n ≡ digits.now) }
+    ensures none { IfNone result ((n : ℕ) → n < 2 ^ 64 → decimal n ≡ digits.now → ⊥) }
 {
     if !is_plain(digits) {
         return None;
@@ -119,6 +119,15 @@ pub fn number(digits: &[u8]) -> Option<u64>
     let Ok(number) = text.parse::<u64>() else {
         return None;
     };
+    Some(number)
+}
+
+/// The same below 2^63.
+pub fn number(digits: &[u8]) -> Option<u64>
+    ensures some { IfSome result (λ n. (decimal n ≡ digits.now) × (n < 2 ^ 63)) }
+    ensures none { IfNone result ((n : ℕ) → n < 2 ^ 63 → decimal n ≡ digits.now → ⊥) }
+{
+    let number = numeral(digits)?;
     if number < 1 << 63 { Some(number) } else { None }
 }
 

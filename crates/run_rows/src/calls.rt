@@ -1,21 +1,23 @@
 //! One call of the program over the forms in memory.
 
-use crate::forms::{Failing, data_devices, disk, sink, source};
+use crate::device::Device;
+use crate::forms::{Failing, data_devices, sink, source};
+use crate::images::Image;
 use std::alloc::{AllocError, Global};
 use std::sync::Wait;
 use std::thread::Threads;
-use zms_dev::{MemDisk, NoMeet};
+use zms_dev::{Disk, NoMeet};
 use zms_top::{Shipped, Status, zms};
 
-/// What a call answered, printed, traced, said and left on the pool device, and how often its sinks failed.
+/// What a call answered, printed, traced and said, the pool device as it left it, and how often device and sinks failed.
 #[derive(Drop)]
 pub struct Left {
     pub status: u8,
     pub printed: Vec<u8>,
     pub traced: Vec<u8>,
     pub told: String,
-    pub device: Vec<u8>,
-    pub disk: MemDisk,
+    pub disk: Device,
+    pub disk_faults: u64,
     pub out_faults: u64,
     pub trace_faults: u64,
 }
@@ -34,13 +36,13 @@ pub fn call<R: Threads + Wait + Sync>(
     alloc: Global,
     words: &[String],
     commands: &[u8],
-    device: &[u8],
+    device: &Image,
     failing: Failing,
 ) -> Result<Left, AllocError> {
     let mut input = source(alloc, commands, failing.source)?;
     let mut out = sink(alloc, failing.sink)?;
     let mut trace = sink(alloc, failing.trace)?;
-    let meta = disk(alloc, device, failing.disk)?;
+    let meta = Device::new(alloc, device, failing.disk)?;
     let devices = data_devices(alloc)?;
     let shipped = zms(
         rt, alloc, words, &mut input, &mut out, &mut trace, meta, devices, &NoMeet,
@@ -57,7 +59,7 @@ pub fn call<R: Threads + Wait + Sync>(
         printed: Vec::from_slice(alloc, out.taken())?,
         traced: Vec::from_slice(alloc, trace.taken())?,
         told: told(alloc, status)?,
-        device: Vec::from_slice(alloc, meta.bytes())?,
+        disk_faults: meta.faults(),
         disk: meta,
         out_faults: out.faults(),
         trace_faults: trace.faults(),
@@ -73,13 +75,23 @@ pub fn words_of(alloc: Global, text: &str) -> Result<Vec<String>, AllocError> {
     Ok(words)
 }
 
-/// What a run without commands finds on a device: its first and its last line, or why it is no pool.
+/// The words of a run at a group, or at the newest.
+fn run_at(alloc: Global, group: &str) -> Result<Vec<String>, AllocError> {
+    if group == "newest" {
+        return words_of(alloc, "run p");
+    }
+    let text = format!(in alloc; "run p --group={group}")?;
+    words_of(alloc, text.as_str())
+}
+
+/// What a run without commands finds on a device at a group: its first and its last line, or why it does not run.
 pub fn found<R: Threads + Wait + Sync>(
     rt: &R,
     alloc: Global,
-    device: &[u8],
+    device: &Image,
+    group: &str,
 ) -> Result<String, AllocError> {
-    let words = words_of(alloc, "run p")?;
+    let words = run_at(alloc, group)?;
     let left = call(rt, alloc, &words, b"", device, Failing::NOTHING)?;
     match String::from_utf8(left.printed) {
         Ok(text) if left.status == 0 => {

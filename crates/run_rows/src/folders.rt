@@ -1,9 +1,7 @@
 //! The folder of a call: what it is given, and what it is to leave.
 
 use crate::calls::words_of;
-use crate::forms::Failing;
-use row_tables::Words;
-use std::alloc::{AllocError, Global};
+use crate::images::{Image, image_of};
 use std::io::ErrorKind;
 use std::rt::Files;
 use std::{fs, io};
@@ -17,8 +15,10 @@ pub struct Asked {
     pub traced: Vec<u8>,
     pub told: Vec<u8>,
     pub status: u8,
-    pub left: Option<Vec<u8>>,
+    pub left: Option<Image>,
     pub failing: String,
+    pub printed_failed: Vec<u8>,
+    pub traced_failed: Vec<u8>,
     pub stops: String,
 }
 
@@ -52,41 +52,17 @@ fn text<R: Files + AllocGlobal>(rt: &R, folder: &str, name: &str) -> io::Result<
     }
 }
 
-fn digit(byte: u8) -> Option<u8> {
-    match byte {
-        b'0'..=b'9' => Some(byte - b'0'),
-        b'a'..=b'f' => Some(byte - b'a' + 10),
-        _ => None,
-    }
-}
-
-/// The bytes that hexadecimal digits say, in pairs, whatever stands between the digits.
-fn unhex(alloc: Global, text: &[u8]) -> Result<Vec<u8>, AllocError> {
-    let mut said = Vec::new(alloc);
-    let mut high = None;
-    for byte in text {
-        match (high, digit(*byte)) {
-            (None, Some(digit)) => high = Some(digit),
-            (Some(first), Some(digit)) => {
-                said.push(first % 16 * 16 + digit % 16)?;
-                high = None;
-            }
-            (_, None) => {}
-        }
-    }
-    Ok(said)
-}
-
-/// A file of hexadecimal digits, if there is one.
-pub fn hex_file<R: Files + AllocGlobal>(
+/// The bytes of a device that a file says, if there is one.
+pub fn image_file<R: Files + AllocGlobal>(
     rt: &R,
     folder: &str,
     name: &str,
-) -> io::Result<Option<Vec<u8>>> {
-    match read_file(rt, folder, name)? {
-        Some(digits) => Ok(Some(unhex(rt.alloc(), &digits)?)),
-        None => Ok(None),
+) -> io::Result<Option<Image>> {
+    if read_file(rt, folder, name)?.is_none() {
+        return Ok(None);
     }
+    let said = text(rt, folder, name)?;
+    Ok(Some(image_of(rt.alloc(), said.as_str())?))
 }
 
 /// The folder of a call, if there is one: it has a file `words`.
@@ -103,27 +79,10 @@ pub fn read_call<R: Files + AllocGlobal>(rt: &R, folder: &str) -> io::Result<Opt
         traced: bytes(rt, folder, "traced")?,
         told: bytes(rt, folder, "told")?,
         status: status.as_str().trim_end().parse::<u8>().unwrap_or(0),
-        left: hex_file(rt, folder, "left")?,
+        left: image_file(rt, folder, "left")?,
         failing: text(rt, folder, "failing")?,
+        printed_failed: bytes(rt, folder, "printed_failed")?,
+        traced_failed: bytes(rt, folder, "traced_failed")?,
         stops: text(rt, folder, "stops")?,
     }))
-}
-
-/// Which calls fail: lines `source N`, `sink N`, `trace N` and `disk N`.
-pub fn failing_of(text: &str) -> Failing {
-    let mut failing = Failing::NOTHING;
-    for line in text.lines() {
-        let mut words = Words::new(line);
-        let name = words.word();
-        if let Some(number) = words.small() {
-            match name {
-                "source" => failing.source = number as usize,
-                "sink" => failing.sink = number as usize,
-                "trace" => failing.trace = number as usize,
-                "disk" => failing.disk = number as usize,
-                _ => {}
-            }
-        }
-    }
-    failing
 }

@@ -2,19 +2,20 @@
 
 ghost use Rattle.std.specs.Prelude.{◌≡◌, length, IfOk};
 
+use crate::device::DiskFailing;
 use std::alloc::{AllocError, Global};
-use zms_dev::{DiskRoom, MemData, MemDisk, MemSink, MemSource, Room};
+use zms_dev::{MemData, MemSink, MemSource, Room};
 
 /// The number of a call that is never made.
 const NEVER: usize = usize::MAX;
 
 /// Which call of each object fails, the first being call 0.
-#[derive(Clone, Copy, Debug)]
+#[derive(Clone, Copy, Debug, PartialEq, Eq)]
 pub struct Failing {
     pub source: usize,
     pub sink: usize,
     pub trace: usize,
-    pub disk: usize,
+    pub disk: DiskFailing,
 }
 
 impl Failing {
@@ -22,18 +23,8 @@ impl Failing {
         source: NEVER,
         sink: NEVER,
         trace: NEVER,
-        disk: NEVER,
+        disk: DiskFailing::Nothing,
     };
-}
-
-/// A pool device with these bytes.
-pub fn disk(alloc: Global, bytes: &[u8], failing: usize) -> Result<MemDisk, AllocError> {
-    let room = DiskRoom {
-        end: 32_768,
-        written: 1_048_576,
-        calls: 64,
-    };
-    MemDisk::new(alloc, bytes, room, &[failing])
 }
 
 pub fn source(alloc: Global, bytes: &[u8], failing: usize) -> Result<MemSource, AllocError> {

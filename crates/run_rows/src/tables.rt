@@ -1,6 +1,8 @@
 //! The words of the command line, and what a device is found to be; and the data device in memory.
 
 use crate::calls::words_of;
+use crate::device::{Device, DiskFailing};
+use crate::images::Image;
 use row_tables::{Calls, Words};
 use std::alloc::{AllocError, Global};
 use zms_dev::{
@@ -30,7 +32,7 @@ fn asked(alloc: Global, text: &str) -> Result<String, AllocError> {
         (Some(Asked::Create { units }), Some(pool)) => {
             format!(in alloc; "create {pool} of {units} units")
         }
-        (Some(Asked::Run), Some(pool)) => format!(in alloc; "run {pool}"),
+        (Some(Asked::Run { at }), Some(pool)) => format!(in alloc; "run {pool} at {at:?}"),
         (None, None) => String::from_str(alloc, "nothing"),
         _ => String::from_str(alloc, "words and pool differ"),
     }
@@ -44,7 +46,8 @@ fn still(alloc: Global, text: &str) -> Result<String, AllocError> {
         calls: 8,
     };
     let mut out = MemSink::new(alloc, room, &[])?;
-    let (status, _meta) = zms_still(alloc, &words, &mut out, disk(alloc, &[])?);
+    let meta = Device::new(alloc, &Image::new(alloc), DiskFailing::Nothing)?;
+    let (status, _meta) = zms_still(alloc, &words, &mut out, meta);
     format!(in alloc; "{status}")
 }
 

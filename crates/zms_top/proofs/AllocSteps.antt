@@ -1,5 +1,5 @@
 -- An alloc, from what its look says.
-use Rattle.std.proofs.Common.{◌≡◌, ◌≢◌, ℕ, ◌<◌, ◌≤◌, Bool, Option, Some, None, List, [], ◌∷◌, inl, inr, refl, arith}
+use Rattle.std.proofs.Common.{◌≡◌, ◌≢◌, ℕ, ◌<◌, ◌≤◌, Option, Some, None, List, [], ◌∷◌, inl, inr, refl, arith}
 use Rattle.std.specs.Prelude.{◌⊎◌, ◌↔◌, Result, Ok, Err, IsErr}
 use Rattle.zms_units.specs.declared.blocks.Dva.{Dva}
 use Rattle.zms_units.specs.declared.faults.First.{First}
@@ -7,7 +7,6 @@ use Rattle.zms_units.specs.declared.segments.Group.{Group}
 use Rattle.zms_units.specs.declared.segments.Seg.{Seg}
 use Rattle.zms_units.specs.Rounding.{AreUnitsOf}
 use Rattle.ms_model.specs.Origin.{Origin}
-use Rattle.ms_model.specs.Units.{settled_group}
 use Rattle.ms_model.specs.Gates.{open_group}
 use Rattle.ms_model.specs.Steps.{noting}
 use Rattle.ms_model.specs.Parts.{right_of}
@@ -15,10 +14,8 @@ use Rattle.ms_model.specs.Events.{Event, at_metaslab}
 use Rattle.ms_model.specs.declared.notes.Act.TheVariants.{Grant, Miss}
 use Rattle.ms_model.specs.declared.notes.Noted.{Noted}
 use Rattle.ms_model.specs.declared.notes.GateNote.{GateNote}
-use Rattle.ms_model.proofs.Held.{ChangesUpTo}
 use Rattle.ms_core.specs.State.{MsState, origin_of, StaysButNotes}
 use Rattle.txg_gate.specs.GateState.{GateState}
-use Rattle.zms_top.specs.Record.{is_set}
 use Rattle.zms_top.specs.Pools.{IsPool}
 use Rattle.zms_top.specs.declared.pool.Pool.{Pool}
 use Rattle.zms_top.specs.declared.replies.Answer.TheVariants.{Granted, NoSpace}
@@ -26,26 +23,22 @@ use Rattle.zms_top.specs.Sound.{IsSound, shape_of}
 use Rattle.zms_top.specs.Looks.{IsLook, act_of}
 use Rattle.zms_top.specs.Lines.{Missed, AreLoads, AllocLine, dva_at}
 use Rattle.ms_model.proofs.Histories.{LeavesGroups}
-use Rattle.zms_top.proofs.StepLemmas.{StepLeaves, StepDid, StaysButHolds, step_events, step_did, note_leaves, above_settled}
+use Rattle.zms_top.proofs.StepLemmas.{StepLeaves, StepDid, StaysButHolds, step_events, step_did, note_leaves}
 
 act_leaves : (group : Group) (count : ℕ) (found : Option Seg) → LeavesGroups (act_of group count found)
 act_leaves group count None = tt
 act_leaves group count (Some seg) = tt
 
-act_above : (group : Group) (count t : ℕ) (found : Option Seg) → t < group.0 → ChangesUpTo t (act_of group count found) → ⊥
-act_above group count t None lt change = change
-act_above group count t (Some seg) lt change = omega arith
-
 act_right_is : (lane : ℕ) (group : Group) (count : ℕ) (found : Option Seg) → right_of (record { lane = lane; act = act_of group count found }) ≡ lane
 act_right_is lane group count None = refl
 act_right_is lane group count (Some seg) = refl
 
-look_noted : (o : Origin) (lane : ℕ) (group : Group) (count : ℕ) (h new : List Noted) (g : List GateNote) (set : ℕ → Bool) (first : Option First) (found : Option Seg)
-    → 1 ≤ lane → IsSound o h g set first → settled_group o h < group.0 → (is : IsLook o lane group count h new found)
-    → StepLeaves o lane (noting is.before (record { lane = lane; act = act_of group count found })) h new g set first
-look_noted o lane group count h new g set first found some was above is =
-    note_leaves o lane (act_of group count found) h is.before new g set first some was is.loads is.note is.may
-    (act_leaves group count found) (act_right_is lane group count found) (act_above group count (settled_group o h) found above)
+look_noted : (o : Origin) (lane : ℕ) (group : Group) (count : ℕ) (h new : List Noted) (g : List GateNote) (first : Option First) (found : Option Seg)
+    → 1 ≤ lane → IsSound o h g first → (is : IsLook o lane group count h new found)
+    → StepLeaves o lane (noting is.before (record { lane = lane; act = act_of group count found })) h new g first
+look_noted o lane group count h new g first found some was is =
+    note_leaves o lane (act_of group count found) h is.before new g first some was is.loads is.note is.may
+    (act_leaves group count found) (act_right_is lane group count found)
 
 found_line : (o : Origin) (lane size : ℕ) (group : Group) (count : ℕ) (g : List GateNote) (before : List Noted) (seg : Seg)
     → 0 < size → size ≤ 16777216 → AreUnitsOf size o.ashift count → group.0 ≡ open_group o.opened g → seg.count ≡ count
@@ -104,7 +97,7 @@ granted_did p m gate lane size group count seg copies was some least most units 
     let o : Origin = origin_of p.metaslab in
     let open_is : group.0 ≡ open_group p.metaslab.opened p.gate.notes = rw (← was.opened) is in
     let units_are : AreUnitsOf size p.metaslab.ashift count = rw was.shift units in
-    let leaves = look_noted o lane group count p.metaslab.notes m.notes p.gate.notes (is_set p.record.bytes.items) p.first (Some seg) some was.sound (above_settled p group was is) looked in
+    let leaves = look_noted o lane group count p.metaslab.notes m.notes p.gate.notes p.first (Some seg) some was.sound looked in
     let step = noting looked.before (record { lane = lane; act = Grant group seg }) in
     let line_is : (kept : List Event) → AreLoads lane 1 kept → AllocLine (shape_of o) lane size (Granted group copies) (step_events p.gate.notes step) kept =
     λ kept loads. rw copies_are (found_line o lane size group count p.gate.notes looked.before seg least most units_are open_is looked.counts kept loads) in
@@ -118,7 +111,7 @@ missed_did p m gate lane size group count was some least most units is stays hel
     let o : Origin = origin_of p.metaslab in
     let open_is : group.0 ≡ open_group p.metaslab.opened p.gate.notes = rw (← was.opened) is in
     let units_are : AreUnitsOf size p.metaslab.ashift count = rw was.shift units in
-    let leaves = look_noted o lane group count p.metaslab.notes m.notes p.gate.notes (is_set p.record.bytes.items) p.first None some was.sound (above_settled p group was is) looked in
+    let leaves = look_noted o lane group count p.metaslab.notes m.notes p.gate.notes p.first None some was.sound looked in
     step_did p m gate lane (AllocLine (shape_of o) lane size (NoSpace 1)) (noting looked.before (record { lane = lane; act = Miss count })) was stays held leaves
     (missed_line o lane size group count p.gate.notes looked.before least most units_are open_is)
 

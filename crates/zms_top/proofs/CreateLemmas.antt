@@ -1,45 +1,34 @@
 -- A pool that is created.
-use Rattle.std.proofs.Common.{◌≡◌, ℕ, ◌*◌, ◌<◌, ◌≤◌, false, List, ◌∙◌, ap, subst, inl, inr, lit<, arith}
-use Rattle.std.specs.Prelude.{◌⊎◌}
-use Rattle.std.proofs.lemmas.Bool.{cases_lt}
-use Rattle.zms_dev.specs.Causes.{one_more}
-use Rattle.zms_dev.specs.Disk.{DiskState, Tells, bytes_of}
-use Rattle.zms_dev.specs.Bytes.{Outside}
-use Rattle.zms_dev.specs.Runs.{Spares, Untouched}
-use Rattle.zms_top.specs.Record.{is_set, bit_bytes, record_len, IsRecord, IsStored, HasNoRecord}
+use Rattle.std.proofs.Common.{◌≡◌, ℕ, Ok, Err, refl, inr}
+use Rattle.zms_dev.specs.Disk.{DiskState}
 use Rattle.zms_dev.specs.Stream.{SinkState}
-use Rattle.zms_dev.proofs.Resting.{rests_then, rests_spares}
-use Rattle.zms_dev.proofs.Sparing.{spares_then}
-use Rattle.zms_top.specs.Ends.{IsEmptyRecord, WritesNew, CreateEnds}
+use Rattle.meta_store.specs.declared.create_faults.CreateFault.{CreateFault}
+use Rattle.meta_store.specs.declared.create_faults.CreateFault.TheVariants.{AlreadyPool as HasPool, Failed as CreateFailed, Memory as CreateMemory}
+use Rattle.zms_top.specs.Creations.{created_layout, IsUncalled, CreateEnds, refused_status, IsAnnounced, MakesPool}
 use Rattle.zms_top.specs.declared.status.Status.{Status}
 
-pub empty_record : (c : List ℕ) (units : ℕ) (made : ℕ) (bytes first : List ℕ) → 64 ≤ units → units ≤ 131072 → made ≡ units
-    → ((u : ℕ) → is_set bytes u ≡ is_set first u) → ((u : ℕ) → is_set first u ≡ false) → IsStored c 4 made bytes → IsEmptyRecord c units
-empty_record c units made bytes first least most same kept none stored = record {
-  has = record {
-    is = subst (IsRecord c 4) same stored.is;
-    least_group = omega arith;
-    last_group = lit< tt;
-    least_units = least;
-    most_units = most;
-  };
-  bits = λ u lt. by_place u lt (cases_lt u made);
-} where
-  by_place : (u : ℕ) → u < 8 * bit_bytes units → (u < made) ⊎ (made ≤ u) → is_set c u ≡ false
-  by_place u lt (inl under) = stored.bits u under ∙ (kept u ∙ none u)
-  by_place u lt (inr over) = stored.padding u over (rw same lt)
+-- a device that was not called
+pub uncalled : (disk : DiskState) → IsUncalled disk disk
+uncalled disk = record {
+  honest = (λ h. h, λ h. h);
+  contents = refl;
+  images = λ c. (λ i. i, λ i. i);
+  moment = refl;
+  since = λ t c. (λ i. i, λ i. i);
+  flushes = refl;
+}
 
--- what a run spared that came after a reading
-pub spared_from : (spared : ℕ → Type 0) (start mid end : DiskState) → Untouched start mid → Spares spared mid end → Spares spared start end
-spared_from spared start mid end quiet run = spares_then spared start mid end (rests_spares start mid spared quiet) run
+-- a creation that was refused
+pub refused_ends : (units : ℕ) (out out_now : SinkState) (start now : DiskState) (low high : ℕ) (fault : CreateFault) (status : Status)
+    → status ≡ refused_status fault → MakesPool (created_layout units) start now low high (Err fault) → out_now ≡ out → CreateEnds units out out_now start now low high status
+refused_ends units out out_now start now low high (HasPool newest) status is makes same =
+    rw is (CreateEnds.already newest (λ tells. (makes.fault tells, (makes.creating tells).pool (makes.fault tells).uber (makes.fault tells).newest.valid)) (makes.steady (λ is. cc)) same)
+refused_ends units out out_now start now low high CreateFailed status is makes same = rw is (CreateEnds.device makes.creating (makes.failed refl) same)
+refused_ends units out out_now start now low high CreateMemory status is makes same =
+    rw is (CreateEnds.memory (inr (λ tells. (makes.fault tells, makes.memory tells refl))) (makes.steady (λ is. cc)) same)
 
--- a creation is a writing behind a reading that found nothing
-pub create_ends : (units : ℕ) (out out_now : SinkState) (start mid end : DiskState) (low between high : ℕ) (status : Status)
-    → (Tells start → HasNoRecord (bytes_of start)) → (Tells start → Untouched start mid) → between ≡ low
-    → WritesNew units out out_now mid end between high status → CreateEnds units out out_now start end low high status
-create_ends units out out_now start mid end low between high _ none quiet steady (WritesNew.device once spared same) =
-    CreateEnds.device none (λ tells. spared_from (Outside 0 (record_len units)) start mid end (quiet tells) (spared (quiet tells).tells)) (once ∙ ap one_more steady) same
-create_ends units out out_now start mid end low between high _ none quiet steady (WritesNew.memory still same_count same) =
-    CreateEnds.memory (λ tells. let first = quiet tells in rests_then start mid end first (still first.tells)) (same_count ∙ steady) same
-create_ends units out out_now start mid end low between high _ none quiet steady (WritesNew.written holds spared same_count printed prints) =
-    CreateEnds.created none (λ tells. holds (quiet tells).tells) (λ tells. spared_from (Outside 0 (record_len units)) start mid end (quiet tells) (spared (quiet tells).tells)) (same_count ∙ steady) printed prints
+-- and one that was not
+pub made_ends : (units : ℕ) (out out_now : SinkState) (start now : DiskState) (low high : ℕ) (status : Status)
+    → MakesPool (created_layout units) start now low high (Ok tt) → IsAnnounced out out_now status → CreateEnds units out out_now start now low high status
+made_ends units out out_now start now low high status makes said =
+    rw said.status_is (CreateEnds.created (λ tells. record { creating = makes.creating tells; none = makes.none tells; made = makes.done tells }) (makes.steady (λ is. cc)) said.printed said.prints)

@@ -1,8 +1,6 @@
 -- How lanes end, from what they did to what is shipped.
-use Rattle.std.proofs.Common.{◌≡◌, ◌≢◌, ℕ, ◌≤◌, Bool, true, false, Option, Some, None, List, [], ◌∷◌, length, zero, suc, inl, inr, refl, sym, ◌∙◌, ap, subst, arith}
-use Rattle.std.specs.Prelude.{◌⊎◌, slice_get, ◌||◌, cond, is_some, IsSome}
-use Rattle.std.specs.List.{fold}
-use Rattle.zms_units.specs.declared.faults.First.{First}
+use Rattle.std.proofs.Common.{◌≡◌, ◌≢◌, ℕ, ◌≤◌, Bool, true, false, Option, Some, None, List, [], ◌∷◌, ◌++◌, length, zero, suc, inl, inr, sym, ◌∙◌, ap, subst, arith}
+use Rattle.std.specs.Prelude.{◌⊎◌, slice_get, cond, IsSome}
 use Rattle.ms_model.specs.Origin.{Origin}
 use Rattle.ms_model.specs.Units.{settled_group}
 use Rattle.ms_model.specs.Legal.{IsLegal}
@@ -13,30 +11,32 @@ use Rattle.ms_model.specs.Parts.{right_of, gate_right}
 use Rattle.ms_model.specs.Steps.{Quiet, Follows}
 use Rattle.ms_model.specs.Events.{Event, metaslab_steps, gate_steps}
 use Rattle.ms_model.specs.declared.notes.Noted.{Noted}
-use Rattle.ms_model.specs.declared.journals.MsJournal.{MsJournal}
 use Rattle.ms_model.specs.declared.journals.Journals.{Journals}
-use Rattle.zms_units.specs.declared.faults.First.TheVariants.{Device as FirstDevice}
 use Rattle.ms_core.specs.State.{MsState, origin_of, settled_of, StaysButNotes}
-use Rattle.zms_dev.specs.Disk.{DiskState, Tells}
-use Rattle.zms_top.specs.Answers.{Replied, paired, first_with, first_fault, last_synced}
+use Rattle.zms_dev.specs.Causes.{one_more}
+use Rattle.zms_dev.specs.Disk.{DiskState, Tells, bytes_of}
+use Rattle.zms_dev.specs.Runs.{LeavesOnly, Spares, Untouched}
+use Rattle.zms_dev.specs.Stream.{SourceState, SinkState}
+use Rattle.zms_dev.proofs.Resting.{rests_spares}
+use Rattle.zms_dev.proofs.Sparing.{spares_then}
+use Rattle.vdev_map.specs.declared.layout.Layout.{Layout}
+use Rattle.vdev_map.specs.declared.table.Table.{Table}
+use Rattle.meta_store.specs.Causes.{IsAsked}
+use Rattle.meta_store.specs.Kept.{LiesIn}
+use Rattle.meta_store.specs.Rewinds.{IsRewinding, IsRing, IsNoGate}
+use Rattle.meta_store.specs.declared.causes.At.{At}
+use Rattle.zms_top.specs.Answers.{paired, last_synced}
 use Rattle.zms_top.specs.Lines.{Lines, AreIntervals}
-use Rattle.zms_top.specs.Sound.{IsRecorded, IsHalfRecorded}
-use Rattle.zms_top.specs.Pools.{IsKept, IsHalfKept}
+use Rattle.zms_top.specs.Stored.{Remembers, IsBeside, IsWhole, IsAskedAlways, IsAtEveryStop}
+use Rattle.zms_top.specs.Pools.{StaysRemembered}
 use Rattle.zms_top.specs.Runs.{HasRun, answers_of}
 use Rattle.zms_top.specs.FreshPool.{IsFresh}
-use Rattle.zms_top.specs.Ends.{any_device, is_device, AreShipped, IsCutOff, LanesDid, LanesEnd}
-use Rattle.zms_dev.specs.Bytes.{Outside}
-use Rattle.zms_dev.specs.Causes.{one_more}
-use Rattle.zms_dev.specs.Runs.{Spares, Untouched}
-use Rattle.zms_top.specs.Record.{record_len}
-use Rattle.zms_top.proofs.CreateLemmas.{spared_from}
-use Rattle.zms_dev.specs.Stream.{SourceState, SinkState}
+use Rattle.zms_top.specs.Script.{IsFile}
+use Rattle.zms_top.specs.Ends.{text_of, IsRead, IsOrigin, first_damage, AreShipped, IsCutOff, IsUnrewound, LanesDid, LanesEnd, RunEnds}
 use Rattle.zms_top.specs.World.{World, world}
 use Rattle.zms_top.specs.Reports.{HandsOver, IsReported}
 use Rattle.zms_top.specs.declared.pool.Pool.{Pool}
 use Rattle.cmd_text.specs.declared.script.Command.{Command}
-use Rattle.zms_top.specs.declared.replies.Answer.{Answer}
-use Rattle.zms_top.specs.declared.replies.Answer.TheVariants.{Granted, NoSpace, BadSize, Done, NoName, NotLive, Device, Suspended}
 use Rattle.zms_top.specs.declared.replies.Reply.{Reply}
 use Rattle.zms_top.specs.declared.status.RunLists.{RunLists}
 use Rattle.zms_top.specs.declared.status.Status.{Status}
@@ -65,81 +65,6 @@ shipped_of p q replies j l fresh stays gate handed =
       device_notes = handed.device_notes;
     }
 
--- no reply names a fault where none is kept
-
-first_some : (f : First) (rs : List Replied) → fold (λ so_far (r : Replied). first_with so_far r.reply.answer) (Some f) rs ≡ Some f
-first_some f [] = refl
-first_some f (r ∷ rs) = first_some f rs
-
-not_device : (a : Answer) → is_device a ≡ false → first_with None a ≡ None
-not_device (Granted _ _) e = refl
-not_device (NoSpace _) e = refl
-not_device BadSize e = refl
-not_device (Done _) e = refl
-not_device NoName e = refl
-not_device (NotLive _ _) e = refl
-not_device (Device _ _) e = cc
-not_device (Suspended _) e = refl
-
-false_or : (a b : Bool) → (a || b) ≡ false → (a ≡ false) × (b ≡ false)
-false_or true b e = cc
-false_or false b e = (refl, e)
-
-no_first : (cs : List Command) (rs : List Reply) → length cs ≡ length rs → any_device rs ≡ false → first_fault (paired cs rs) ≡ None
-no_first [] rs same none = refl
-no_first (c ∷ cs) [] same none = refl
-no_first (c ∷ cs) (r ∷ rs) same none =
-    let both = false_or (is_device r.answer) (any_device rs) none in
-    ap (λ f. fold (λ so_far (x : Replied). first_with so_far x.reply.answer) f (paired cs rs)) (not_device r.answer both.0) ∙ no_first cs rs (omega (arith, same)) both.1
-
--- and some reply names a fault where one is kept
-
-some_then : (a : Answer) (cs : List Command) (rs : List Reply) → (is_device a || any_device rs) ≡ true → (any_device rs ≡ true → IsSome (first_fault (paired cs rs)))
-    → IsSome (fold (λ so_far (x : Replied). first_with so_far x.reply.answer) (first_with None a) (paired cs rs))
-some_then (Granted _ _) cs rs any rest = rest any
-some_then (NoSpace _) cs rs any rest = rest any
-some_then BadSize cs rs any rest = rest any
-some_then (Done _) cs rs any rest = rest any
-some_then NoName cs rs any rest = rest any
-some_then (NotLive _ _) cs rs any rest = rest any
-some_then (Device low high) cs rs any rest = rw (first_some (FirstDevice low high) (paired cs rs)) refl
-some_then (Suspended _) cs rs any rest = rest any
-
-some_first : (cs : List Command) (rs : List Reply) → length cs ≡ length rs → any_device rs ≡ true → IsSome (first_fault (paired cs rs))
-some_first [] [] same any = cc
-some_first [] (r ∷ rs) same any = absurd (omega (arith, same))
-some_first (c ∷ cs) [] same any = cc
-some_first (c ∷ cs) (r ∷ rs) same any = some_then r.answer cs rs any (some_first cs rs (omega (arith, same)))
-
--- the lanes' facts over the journals that are shipped
-
-pub kept_recorded : (start now : DiskState) (o : Origin) (h : List Noted) → IsKept o [] h start now → IsRecorded start now o h
-kept_recorded start now o h kept = record {
-  tells = kept.tells;
-  untouched = λ e. kept.same e;
-  unchanged = λ e c may. kept.unchanged e c may;
-  stored = λ lt c may. kept.stored lt c may;
-}
-
-half_recorded : (start now : DiskState) (o : Origin) (h : List Noted) → IsHalfKept o [] h start now → IsHalfRecorded start now o h
-half_recorded start now o h half = record { tells = half.tells; unchanged = λ e c may. half.unchanged e c may; stored = λ lt c may. half.stored lt c may }
-
--- what lanes that were cut off left of the device
-pub cut_device : (p q : Pool) (journal : MsJournal) (start end : DiskState) (low high : ℕ) → IsFresh p → journal.notes ≡ q.metaslab.notes → high ≡ cond (is_some q.first) (one_more low) low
-    → (Tells start → q.first ≡ None → IsKept (origin_of p.metaslab) p.metaslab.notes q.metaslab.notes start end)
-    → (Tells start → IsSome q.first → IsHalfKept (origin_of p.metaslab) p.metaslab.notes q.metaslab.notes start end)
-    → ((high ≡ low) × (Tells start → IsRecorded start end (origin_of p.metaslab) journal.notes)) ⊎ ((high ≡ one_more low) × (Tells start → IsHalfRecorded start end (origin_of p.metaslab) journal.notes))
-cut_device p q journal start end low high fresh notes count kept half = by_first q.first count kept half where
-  o : Origin
-  o = origin_of p.metaslab
-
-  by_first : (first : Option First) → high ≡ cond (is_some first) (one_more low) low
-      → (Tells start → first ≡ None → IsKept o p.metaslab.notes q.metaslab.notes start end)
-      → (Tells start → IsSome first → IsHalfKept o p.metaslab.notes q.metaslab.notes start end)
-      → ((high ≡ low) × (Tells start → IsRecorded start end o journal.notes)) ⊎ ((high ≡ one_more low) × (Tells start → IsHalfRecorded start end o journal.notes))
-  by_first None count kept half = inl (count, λ tells. rw notes (kept_recorded start end o q.metaslab.notes (subst (λ n. IsKept o n q.metaslab.notes start end) fresh.notes (kept tells refl))))
-  by_first (Some f) count kept half = inr (count, λ tells. rw notes (half_recorded start end o q.metaslab.notes (subst (λ n. IsHalfKept o n q.metaslab.notes start end) fresh.notes (half tells refl))))
-
 only_journal : (lane : ℕ) (es : List Event) (n : List Noted) (k : ℕ) (h : List Noted) → Follows right_of lane [] (metaslab_steps 0 es) n → slice_get (n ∷ []) k ≡ Some h
     → Follows right_of lane [] (metaslab_steps k es) h
 only_journal lane es n zero h follows e = subst (λ l. Follows right_of lane [] (metaslab_steps 0 es) l) (at_zero e) follows where
@@ -152,14 +77,12 @@ opened_settled : (p : Pool) → IsFresh p → settled_of p.metaslab ≡ p.metasl
 opened_settled p fresh = ap (settled_group (origin_of p.metaslab)) fresh.notes
 
 -- the facts of a whole run, over what is shipped
-pub lanes_did : (p q : Pool) (commands : List Command) (replies : List Reply) (journals : Option Journals) (lists : Option RunLists) (old new : World) (status : Status)
+pub lanes_did : (whole : Type 0) (p q : Pool) (commands : List Command) (replies : List Reply) (journals : Option Journals) (lists : Option RunLists) (old new : World) (status : Status)
     → IsFresh p → StaysButNotes p.metaslab q.metaslab → length replies ≡ length commands → HasRun p q (paired commands replies) → AreIntervals old.faults new.faults (answers_of replies)
-    → (Tells old.disk → q.first ≡ None → IsKept (origin_of p.metaslab) p.metaslab.notes q.metaslab.notes old.disk new.disk)
-    → (Tells old.disk → IsSome q.first → IsHalfKept (origin_of p.metaslab) p.metaslab.notes q.metaslab.notes old.disk new.disk)
-    → (Tells old.disk → Spares (Outside 0 (record_len p.metaslab.units)) old.disk new.disk)
+    → (whole → first_damage replies ≡ None)
     → (report : IsReported q (paired commands replies) replies old.out new.out old.trace new.trace status journals lists)
-    → LanesDid commands old new (origin_of p.metaslab) report.handed.journal report.some_journals report.some_lists status
-lanes_did p q commands replies journals lists old new status fresh stays each run intervals kept half spared report =
+    → LanesDid whole commands old new (origin_of p.metaslab) report.handed.journal report.some_journals report.some_lists status
+lanes_did whole p q commands replies journals lists old new status fresh stays each run intervals undamaged report =
     let handed = report.handed in
     let o : Origin = origin_of p.metaslab in
     let origin : origin_of q.metaslab ≡ o = ap origin_of stays in
@@ -203,82 +126,136 @@ lanes_did p q commands replies journals lists old new status fresh stays each ru
       written = report.written;
       writes = rw handed.replies_are report.writes;
       status_is = rw handed.replies_are report.status_is;
-      spares = spared;
-      device = λ none tells.
-          let idle : q.first ≡ None = sym run.fault ∙ no_first commands replies (sym each) (rw handed.replies_are at none) in
-          let from_start = subst (λ n. IsKept o n q.metaslab.notes old.disk new.disk) fresh.notes (kept tells idle) in
-          rw handed.notes (kept_recorded old.disk new.disk o q.metaslab.notes from_start);
-      suspended = λ any tells.
-          let some : IsSome q.first = subst IsSome run.fault (some_first commands replies (sym each) (rw handed.replies_are at any)) in
-          let from_start = subst (λ n. IsHalfKept o n q.metaslab.notes old.disk new.disk) fresh.notes (half tells some) in
-          rw handed.notes (half_recorded old.disk new.disk o q.metaslab.notes from_start);
+      undamaged = λ is. rw handed.replies_are (undamaged is);
     }
 
-recorded_from : (start mid now : DiskState) (o : Origin) (h : List Noted) → Untouched start mid → IsRecorded mid now o h → IsRecorded start now o h
-recorded_from start mid now o h quiet recorded = record {
-  tells = recorded.tells;
-  untouched = λ e. recorded.untouched e ∙ quiet.contents;
-  unchanged = λ e c may. quiet.images c (recorded.unchanged e c may);
-  stored = recorded.stored;
+-- what is kept of the device, over the journal that is shipped
+
+pub left_run : (p q : Pool) (layout later : Layout) (table : Table) (journal : List Noted) (old new : DiskState) → later ≡ layout → journal ≡ q.metaslab.notes → StaysRemembered p q later table old new
+    → LeavesOnly old new (Remembers layout (origin_of p.metaslab) journal (origin_of p.metaslab).opened)
+left_run p q layout later table journal old new same notes kept = rw notes (subst (λ (l : Layout). LeavesOnly old new (Remembers l (origin_of p.metaslab) q.metaslab.notes (origin_of p.metaslab).opened)) same kept.run)
+
+pub left_now : (p q : Pool) (layout later : Layout) (table : Table) (journal : List Noted) (old new : DiskState) → later ≡ layout → StaysButNotes p.metaslab q.metaslab → journal ≡ q.metaslab.notes → StaysRemembered p q later table old new
+    → (c : List ℕ) → new.may_leave c → Remembers layout (origin_of p.metaslab) journal (settled_group (origin_of p.metaslab) journal) c
+left_now p q layout later table journal old new same stays notes kept c may =
+    rw notes (subst (λ (o : Origin). Remembers layout o q.metaslab.notes (settled_group o q.metaslab.notes) c) (ap origin_of stays)
+    (subst (λ (l : Layout). Remembers l (origin_of q.metaslab) q.metaslab.notes (settled_of q.metaslab) c) same (kept.now.left c may)))
+
+pub cut_faults : (low high : ℕ) (failed : Bool) → high ≡ cond failed (one_more low) low → (high ≡ low) ⊎ (high ≡ one_more low)
+cut_faults low high true is = inr is
+cut_faults low high false is = inl is
+
+-- behind a reading
+
+spared_from : (spared : ℕ → Type 0) (start mid end : DiskState) → Untouched start mid → Spares spared mid end → Spares spared start end
+spared_from spared start mid end quiet run = spares_then spared start mid end (rests_spares start mid spared quiet) run
+
+pub whole_from : (at : At) (start mid : DiskState) → Untouched start mid → IsWhole start at → IsWhole mid at
+whole_from at start mid quiet whole = record {
+  tells = quiet.tells;
+  lies = λ uber asked. subst (λ (b : List ℕ). LiesIn b uber) (sym quiet.contents) (whole.lies uber (subst (λ (b : List ℕ). IsAsked b at uber) quiet.contents asked));
 }
 
-half_from : (start mid now : DiskState) (o : Origin) (h : List Noted) → Untouched start mid → IsHalfRecorded mid now o h → IsHalfRecorded start now o h
-half_from start mid now o h quiet half = record {
-  tells = half.tells;
-  unchanged = λ e c may. let from = half.unchanged e c may in (from.0, quiet.images from.0 from.1, from.2);
-  stored = half.stored;
+flushes_from : (start mid now : DiskState) (more : List ℕ) → Untouched start mid → now.flushes ≡ mid.flushes ++ more → now.flushes ≡ start.flushes ++ more
+flushes_from start mid now more quiet noted = noted ∙ ap (λ (f : List ℕ). f ++ more) quiet.flushes
+
+flushes_to : (start mid now : DiskState) (more : List ℕ) → Untouched start mid → now.flushes ≡ start.flushes ++ more → now.flushes ≡ mid.flushes ++ more
+flushes_to start mid now more quiet noted = noted ∙ ap (λ (f : List ℕ). f ++ more) (sym quiet.flushes)
+
+asked_from : (at : At) (start mid now : DiskState) → Untouched start mid → IsAskedAlways at mid now → IsAskedAlways at start now
+asked_from at start mid now quiet was = record {
+  uber = was.uber;
+  asked = subst (λ (b : List ℕ). IsAsked b at was.uber) quiet.contents was.asked;
+  after_first = λ t rest noted c left. subst (λ (b : List ℕ). IsRewinding was.uber b c) quiet.contents (was.after_first t rest (flushes_to start mid now (t ∷ rest) quiet noted) c left);
 }
 
-cut_from : (start mid now : DiskState) (low between high : ℕ) (o : Origin) (h : List Noted) → (Tells start → Untouched start mid) → between ≡ low
-    → ((high ≡ between) × (Tells mid → IsRecorded mid now o h)) ⊎ ((high ≡ one_more between) × (Tells mid → IsHalfRecorded mid now o h))
-    → ((high ≡ low) × (Tells start → IsRecorded start now o h)) ⊎ ((high ≡ one_more low) × (Tells start → IsHalfRecorded start now o h))
-cut_from start mid now low between high o h quiet steady (inl whole) = inl (whole.0 ∙ steady, λ tells. let same = quiet tells in recorded_from start mid now o h same (whole.1 same.tells))
-cut_from start mid now low between high o h quiet steady (inr half) = inr (half.0 ∙ ap one_more steady, λ tells. let same = quiet tells in half_from start mid now o h same (half.1 same.tells))
-
--- lanes over a pool that was opened by reading alone
-pub lanes_from : (input out : SourceState) (commands : List Command) (old_out new_out old_trace new_trace : SinkState) (start mid end : DiskState) (low between high : ℕ) (read left : SourceState) (o : Origin)
-    (status : Status) (journals : Option Journals) (lists : Option RunLists)
-    → (Tells start → Untouched start mid) → between ≡ low
-    → LanesEnd commands (world input old_out old_trace mid between) (world out new_out new_trace end high) o status journals lists
-    → LanesEnd commands (world read old_out old_trace start low) (world left new_out new_trace end high) o status journals lists
-lanes_from input out commands old_out new_out old_trace new_trace start mid end low between high read left o status journals lists quiet steady ends = record {
-  journal = ends.journal;
-  some_journals = ends.some_journals;
-  some_lists = ends.some_lists;
-  journals_are = ends.journals_are;
-  lists_are = ends.lists_are;
-  shipped = ends.shipped;
-  end = from ends.end;
+stops_from : (at : At) (layout : Layout) (o : Origin) (h : List Noted) (start mid now : DiskState) → Untouched start mid → IsAtEveryStop at layout o h mid now → IsAtEveryStop at layout o h start now
+stops_from at layout o h start mid now quiet was = record {
+  uber = was.uber;
+  asked = subst (λ (b : List ℕ). IsAsked b at was.uber) quiet.contents was.asked;
+  named = was.named;
+  moment = was.moment;
+  ends = record {
+    groups = was.ends.groups;
+    slots = was.ends.slots;
+    ring = subst (λ (b : List ℕ). IsRing b was.ends.groups 128) quiet.contents was.ends.ring;
+    before = was.ends.before;
+    many = was.ends.many;
+    rest = was.ends.rest;
+    noted = flushes_from start mid now (was.ends.before ++ was.moment ∷ was.ends.rest) quiet was.ends.noted;
+  };
+  early = was.early;
+  rewinding = λ t rest noted soon c left. either c (was.rewinding t rest (flushes_to start mid now (t ∷ rest) quiet noted) soon c left);
+  since = was.since;
+  left = was.left;
 } where
-  from : IsCutOff (world input old_out old_trace mid between) (world out new_out new_trace end high) o ends.journal ends.some_lists status
-      ⊎ LanesDid commands (world input old_out old_trace mid between) (world out new_out new_trace end high) o ends.journal ends.some_journals ends.some_lists status
-      → IsCutOff (world read old_out old_trace start low) (world left new_out new_trace end high) o ends.journal ends.some_lists status
-      ⊎ LanesDid commands (world read old_out old_trace start low) (world left new_out new_trace end high) o ends.journal ends.some_journals ends.some_lists status
-  from (inl cut) = inl (record {
-    spares = λ tells. (let same = quiet tells in spared_from (Outside 0 (record_len o.units)) start mid end same (cut.spares same.tells));
-    device = cut_from start mid end low between high o ends.journal.notes quiet steady cut.device;
-    none = cut.none;
-    status_is = cut.status_is;
-    out = cut.out;
-    trace = cut.trace;
-  })
-  from (inr did) = inr (record {
-    each = did.each;
-    kept = did.kept;
-    keeper = did.keeper;
-    backed = did.backed;
-    others = did.others;
-    settled = did.settled;
-    synced = did.synced;
-    spares = λ tells. (let same = quiet tells in spared_from (Outside 0 (record_len o.units)) start mid end same (did.spares same.tells));
-    intervals = subst (λ n. AreIntervals n high (answers_of ends.some_lists.replies)) steady did.intervals;
-    tally = did.tally;
-    tally_is = did.tally_is;
-    group = did.group;
-    group_is = did.group_is;
-    written = did.written;
-    writes = did.writes;
-    status_is = did.status_is;
-    device = λ none tells. (let same = quiet tells in recorded_from start mid end o ends.journal.notes same (did.device none same.tells));
-    suspended = λ any tells. (let same = quiet tells in half_from start mid end o ends.journal.notes same (did.suspended any same.tells));
-  })
+  either : (c : List ℕ) → IsRewinding was.uber (bytes_of mid) c ⊎ Remembers layout o h o.opened c → IsRewinding was.uber (bytes_of start) c ⊎ Remembers layout o h o.opened c
+  either c (inl run) = inl (subst (λ (b : List ℕ). IsRewinding was.uber b c) quiet.contents run)
+  either c (inr now) = inr now
+
+module _ (at : At) (whole : Type 0) (start mid end : DiskState) (low between high : ℕ) (quiet : Tells start → Untouched start mid) (steady : between ≡ low) (premise : IsWhole start at → whole)
+    (input out read left : SourceState) (old_out new_out old_trace new_trace : SinkState) (status : Status) (journals : Option Journals) (lists : Option RunLists) where
+  -- a rewind that failed over a pool that was opened by reading alone
+  pub unrewound_from : IsUnrewound whole at (world input old_out old_trace mid between) (world out new_out new_trace end high) status journals lists
+      → IsUnrewound (IsWhole start at) at (world read old_out old_trace start low) (world left new_out new_trace end high) status journals lists
+  unrewound_from was = record {
+    status_is = was.status_is;
+    failed = was.failed ∙ ap one_more steady;
+    device = λ is. asked_from at start mid end (quiet is.tells) (was.device (premise is));
+    spares = λ tells. let same = quiet tells in spared_from IsNoGate start mid end same (was.spares same.tells);
+    out = was.out;
+    trace = was.trace;
+    no_journals = was.no_journals;
+    no_lists = was.no_lists;
+  }
+
+  faults_from : (high ≡ between) ⊎ (high ≡ one_more between) → (high ≡ low) ⊎ (high ≡ one_more low)
+  faults_from (inl same) = inl (same ∙ steady)
+  faults_from (inr more) = inr (more ∙ ap one_more steady)
+
+  -- and lanes over one
+  pub lanes_from : (commands : List Command) (layout : Layout) (o : Origin)
+      → LanesEnd whole at commands (world input old_out old_trace mid between) (world out new_out new_trace end high) layout o status journals lists
+      → LanesEnd (IsWhole start at) at commands (world read old_out old_trace start low) (world left new_out new_trace end high) layout o status journals lists
+  lanes_from commands layout o ends = record {
+    journal = ends.journal;
+    some_journals = ends.some_journals;
+    some_lists = ends.some_lists;
+    journals_are = ends.journals_are;
+    lists_are = ends.lists_are;
+    shipped = ends.shipped;
+    end = end_from ends.end;
+    device = λ is. stops_from at layout o ends.journal.notes start mid end (quiet is.tells) (ends.device (premise is));
+    spares = λ tells. let same = quiet tells in spared_from (IsBeside layout) start mid end same (ends.spares same.tells);
+  } where
+    end_from : IsCutOff (world input old_out old_trace mid between) (world out new_out new_trace end high) ends.some_lists status
+        ⊎ LanesDid whole commands (world input old_out old_trace mid between) (world out new_out new_trace end high) o ends.journal ends.some_journals ends.some_lists status
+        → IsCutOff (world read old_out old_trace start low) (world left new_out new_trace end high) ends.some_lists status
+        ⊎ LanesDid (IsWhole start at) commands (world read old_out old_trace start low) (world left new_out new_trace end high) o ends.journal ends.some_journals ends.some_lists status
+    end_from (inl cut) = inl (record { faults = faults_from cut.faults; none = cut.none; status_is = cut.status_is; out = cut.out; trace = cut.trace })
+    end_from (inr did) = inr (record {
+      each = did.each;
+      kept = did.kept;
+      keeper = did.keeper;
+      backed = did.backed;
+      others = did.others;
+      settled = did.settled;
+      synced = did.synced;
+      intervals = subst (λ (n : ℕ). AreIntervals n high (answers_of ends.some_lists.replies)) steady did.intervals;
+      tally = did.tally;
+      tally_is = did.tally_is;
+      group = did.group;
+      group_is = did.group_is;
+      written = did.written;
+      writes = did.writes;
+      status_is = did.status_is;
+      undamaged = λ is. did.undamaged (premise is);
+    })
+
+  -- so a run ends whose pool was opened
+  pub run_ends : (commands : List Command) (layout : Layout) (o : Origin) → (IsSome read.left → IsFile (text_of read.left) commands) → IsRead read left → IsOrigin at start layout o
+      → IsUnrewound whole at (world input old_out old_trace mid between) (world out new_out new_trace end high) status journals lists
+      ⊎ LanesEnd whole at commands (world input old_out old_trace mid between) (world out new_out new_trace end high) layout o status journals lists
+      → RunEnds at (world read old_out old_trace start low) (world left new_out new_trace end high) status journals lists
+  run_ends commands layout o file is_read origin (inl failed) = RunEnds.unrewound commands file is_read layout o origin (unrewound_from failed)
+  run_ends commands layout o file is_read origin (inr lanes) = RunEnds.began commands file is_read layout o origin (lanes_from commands layout o lanes)

@@ -19,7 +19,6 @@ use Rattle.ms_core.specs.State.{MsState, origin_of, collected_of, StaysButNotes}
 use Rattle.ms_core.specs.declared.faults.MsFault.{MsFault}
 use Rattle.ms_core.specs.declared.faults.MsFault.TheVariants.{NotLive as NotLiveFault}
 use Rattle.txg_gate.specs.GateState.{GateState}
-use Rattle.zms_top.specs.Record.{is_set}
 use Rattle.zms_top.specs.Pools.{IsPool}
 use Rattle.zms_top.specs.declared.pool.Pool.{Pool}
 use Rattle.zms_top.specs.declared.replies.Answer.TheVariants.{Done, NotLive}
@@ -27,7 +26,7 @@ use Rattle.zms_top.specs.Sound.{Loads, shape_of}
 use Rattle.zms_top.specs.Looks.{IsGivenBack}
 use Rattle.zms_top.specs.Names.{copies_at}
 use Rattle.zms_top.specs.Lines.{AreLoads, Freed, FreeLine, offset_at}
-use Rattle.zms_top.proofs.StepLemmas.{StepLeaves, StepDid, StaysButHolds, step_events, step_did, look_leaves, note_leaves, above_settled, collected_loads}
+use Rattle.zms_top.proofs.StepLemmas.{StepLeaves, StepDid, StaysButHolds, step_events, step_did, look_leaves, note_leaves, collected_loads}
 use Rattle.zms_top.proofs.LookLemmas.{loads_loaded}
 
 -- of each unit of a segment something holds, or it has a lowest unit of which it does not
@@ -152,8 +151,7 @@ pub freed_did : (p : Pool) (m : MsState) (gate : GateState) (lane : ℕ) (group 
 freed_did p m gate lane group seg was some is stays held given =
     let o : Origin = origin_of p.metaslab in
     let open_is : group.0 ≡ open_group p.metaslab.opened p.gate.notes = rw (← was.opened) is in
-    let above = above_settled p group was is in
-    let leaves = note_leaves o lane (Free group seg) p.metaslab.notes given.before m.notes p.gate.notes (is_set p.record.bytes.items) p.first some was.sound given.loads given.notes given.may tt refl (λ le. omega (arith, le, above)) in
+    let leaves = note_leaves o lane (Free group seg) p.metaslab.notes given.before m.notes p.gate.notes p.first some was.sound given.loads given.notes given.may tt refl in
     step_did p m gate lane (FreeLine (shape_of o) lane (copies_at (shape_of o) (Some seg)) (Done group)) (noting given.before (record { lane = lane; act = Free group seg })) was stays held leaves
     (freed_line o lane group p.gate.notes given.before seg given.may.within open_is)
 
@@ -165,8 +163,8 @@ not_live_did p m gate lane group seg unit vdev offset was some is stays held wit
     let o : Origin = origin_of p.metaslab in
     let open_is : group.0 ≡ open_group p.metaslab.opened p.gate.notes = rw (← was.opened) is in
     let same : m.notes ≡ given.before = given.notes ∙ append-nil given.before in
-    let leaves = look_leaves o lane p.metaslab.notes given.before p.gate.notes (is_set p.record.bytes.items) p.first some was.sound given.loads in
+    let leaves = look_leaves o lane p.metaslab.notes given.before p.gate.notes p.first some was.sound given.loads in
     let placed : offset ≡ offset_at (shape_of o) 0 unit = rw was.shift (omega (arith, offset_is)) in
     step_did p m gate lane (FreeLine (shape_of o) lane (copies_at (shape_of o) (Some seg)) (NotLive vdev offset)) (look given.before) was stays held
-    (subst (λ l. StepLeaves o lane (look given.before) p.metaslab.notes l p.gate.notes (is_set p.record.bytes.items) p.first) (sym same) leaves)
+    (subst (λ l. StepLeaves o lane (look given.before) p.metaslab.notes l p.gate.notes p.first) (sym same) leaves)
     (not_live_line o lane group p.gate.notes given.before seg unit vdev offset within open_is given.may vdev_is placed)

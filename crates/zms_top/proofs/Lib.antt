@@ -4,13 +4,15 @@ pub mod FreeSteps
 pub mod NameLemmas
 pub mod FrontLemmas
 pub mod LookLemmas
+pub mod Backing
+pub mod Results
+pub mod Growing
+pub mod Remembering
+pub mod Committing
 pub mod OpenLemmas
 pub mod PairLemmas
 pub mod PoolLemmas
 pub mod PrintLemmas
-pub mod RecordBits
-pub mod RecordBytes
-pub mod RecordRuns
 pub mod RunLemmas
 pub mod SoundLemmas
 pub mod SyncSteps
@@ -18,5 +20,6 @@ pub mod TallyLemmas
 pub mod WordLemmas
 pub mod ShipLemmas
 pub mod EndLemmas
+pub mod Stopping
 pub mod CreateLemmas
 pub mod CauseLemmas

@@ -1,35 +1,41 @@
 -- Commands one behind the other.
-use Rattle.std.proofs.Common.{◌≡◌, ℕ, ◌+◌, ◌<◌, ◌≤◌, false, Option, Some, None, List, [], ◌∷◌, ◌++◌, length, take, get_or, refl, sym, ◌∙◌, ap, subst, add-one, arith}
-use Rattle.std.specs.Prelude.{◌⊎◌, cond, is_some, IsSome}
-use Rattle.std.proofs.Common.{inl, inr}
+use Rattle.std.proofs.Common.{◌≡◌, ℕ, ◌+◌, ◌<◌, ◌≤◌, Bool, true, false, Option, Some, None, List, [], ◌∷◌, ◌++◌, length, take, get_or, refl, sym, ◌∙◌, ap, subst, add-one, arith}
+use Rattle.std.specs.Prelude.{cond, IsSome}
 use Rattle.std.proofs.lemmas.List.{length-append, length-take-le}
-use Rattle.std.proofs.lemmas.Bool.{cases_lt}
 use Rattle.std.proofs.lemmas.List.Sums.{fold_push}
 use Rattle.std.proofs.Math.Seq.{take-suc}
 use Rattle.zms_units.specs.declared.faults.First.{First}
+use Rattle.zms_units.specs.declared.faults.First.TheVariants.{Device as FirstDevice, Damaged as FirstDamaged}
 use Rattle.ms_model.specs.Origin.{Origin}
-use Rattle.ms_model.specs.Units.{held, settled_group}
+use Rattle.ms_model.specs.Units.{settled_group}
 use Rattle.ms_model.specs.Parts.{right_of, gate_right}
 use Rattle.ms_model.specs.Events.{Event, gate_steps, metaslab_steps}
 use Rattle.ms_model.specs.declared.notes.Noted.{Noted}
 use Rattle.ms_model.specs.declared.notes.GateNote.{GateNote}
 use Rattle.lane_steps.proofs.Steps.{quiet_both, follows_both, quiet_none}
 use Rattle.ms_model.proofs.Events.{gate_steps-append, metaslab_steps-append}
-use Rattle.ms_core.specs.State.{MsState, origin_of, settled_of}
+use Rattle.ms_core.specs.State.{origin_of, settled_of, StaysButNotes}
 use Rattle.txg_gate.specs.Closings.{closings_of}
 use Rattle.zms_dev.specs.Causes.{one_more}
-use Rattle.zms_dev.specs.Disk.{DiskState, Tells}
-use Rattle.zms_dev.specs.Runs.{Spares}
-use Rattle.zms_top.specs.Answers.{Replied, paired, first_with, synced_after, IsOfAlloc, IsOfFree}
-use Rattle.zms_top.specs.Sound.{Tour, shape_of, HoldsGroup, Spared}
+use Rattle.zms_dev.specs.Disk.{DiskState}
+use Rattle.zms_dev.specs.Runs.{LeavesOnly}
+use Rattle.zms_dev.proofs.Moments.{OnlyNow, started, joined, weaker}
+use Rattle.vdev_map.specs.declared.layout.Layout.{Layout}
+use Rattle.vdev_map.specs.declared.table.Table.{Table}
+use Rattle.ms_model.proofs.Overlaps.{opened_le_settled}
+use Rattle.zms_top.specs.Stored.{Remembers}
+use Rattle.zms_top.proofs.Remembering.{remembers_grown, remembers_lower}
+use Rattle.zms_top.specs.Answers.{Replied, paired, first_with, is_failure, synced_after, IsOfAlloc, IsOfFree}
+use Rattle.zms_top.specs.Sound.{Grows, Tour, shape_of}
 use Rattle.zms_top.specs.Lines.{Lines, WhatLine, AreIntervals}
-use Rattle.zms_top.specs.Pools.{Acted, IsPool, IsKept, IsHalfKept, LeavesSettled}
+use Rattle.zms_top.specs.Pools.{Acted, IsPool, IsRemembered, StaysRemembered, LeavesSettled}
 use Rattle.zms_top.specs.Runs.{HasRun, answers_of}
-use Rattle.zms_top.specs.Ends.{is_device}
+use Rattle.meta_store.specs.declared.causes.OpenCause.{OpenCause}
+use Rattle.zms_top.specs.Ends.{damage_in, first_of, first_damage}
 use Rattle.cmd_text.specs.declared.script.Command.{Command}
 use Rattle.zms_top.specs.declared.pool.Pool.{Pool}
 use Rattle.zms_top.specs.declared.replies.Answer.{Answer}
-use Rattle.zms_top.specs.declared.replies.Answer.TheVariants.{Granted, NoSpace, BadSize, Done, NoName, NotLive, Device, Suspended}
+use Rattle.zms_top.specs.declared.replies.Answer.TheVariants.{Granted, NoSpace, BadSize, Done, NoName, NotLive, Device, Damaged, Suspended}
 use Rattle.zms_top.specs.declared.replies.Reply.{Reply}
 use Rattle.zms_top.proofs.SyncSteps.{stays_both}
 
@@ -57,10 +63,16 @@ intervals_push low mid high (Done _ ∷ rest) a is then = intervals_push low mid
 intervals_push low mid high (NoName ∷ rest) a is then = intervals_push low mid high rest a is then
 intervals_push low mid high (NotLive _ _ ∷ rest) a is then = intervals_push low mid high rest a is then
 intervals_push low mid high (Suspended _ ∷ rest) a is then = intervals_push low mid high rest a is then
+intervals_push low mid high (Damaged _ _ ∷ rest) a is then = intervals_push low mid high rest a is then
 
 -- an alloc and a free name no fault
 
-pub alloc_quiet : (a : Answer) → IsOfAlloc a → is_device a ≡ false
+abbrev pub names_fault : Answer → Bool
+names_fault (Device _ _) = true
+names_fault (Damaged _ _) = true
+names_fault _ = false
+
+pub alloc_quiet : (a : Answer) → IsOfAlloc a → names_fault a ≡ false
 alloc_quiet (Granted _ _) is = refl
 alloc_quiet (NoSpace _) is = refl
 alloc_quiet BadSize is = refl
@@ -69,8 +81,9 @@ alloc_quiet NoName is = absurd is
 alloc_quiet (NotLive _ _) is = absurd is
 alloc_quiet (Device _ _) is = absurd is
 alloc_quiet (Suspended _) is = absurd is
+alloc_quiet (Damaged _ _) is = absurd is
 
-pub free_quiet : (a : Answer) → IsOfFree a → is_device a ≡ false
+pub free_quiet : (a : Answer) → IsOfFree a → names_fault a ≡ false
 free_quiet (Done _) is = refl
 free_quiet NoName is = refl
 free_quiet (NotLive _ _) is = refl
@@ -79,8 +92,9 @@ free_quiet (NoSpace _) is = absurd is
 free_quiet BadSize is = absurd is
 free_quiet (Device _ _) is = absurd is
 free_quiet (Suspended _) is = absurd is
+free_quiet (Damaged _ _) is = absurd is
 
-pub quiet_first : (first now : Option First) (a : Answer) → is_device a ≡ false → now ≡ first → now ≡ first_with first a
+pub quiet_first : (first now : Option First) (a : Answer) → names_fault a ≡ false → now ≡ first → now ≡ first_with first a
 quiet_first (Some f) now a is e = e
 quiet_first None now (Granted _ _) is e = e
 quiet_first None now (NoSpace _) is e = e
@@ -90,8 +104,9 @@ quiet_first None now NoName is e = e
 quiet_first None now (NotLive _ _) is e = e
 quiet_first None now (Device _ _) is e = cc
 quiet_first None now (Suspended _) is e = e
+quiet_first None now (Damaged _ _) is e = cc
 
-pub quiet_intervals : (low : ℕ) (a : Answer) → is_device a ≡ false → AreIntervals low low (a ∷ [])
+pub quiet_intervals : (low : ℕ) (a : Answer) → names_fault a ≡ false → AreIntervals low low (a ∷ [])
 quiet_intervals low (Granted _ _) is = refl
 quiet_intervals low (NoSpace _) is = refl
 quiet_intervals low BadSize is = refl
@@ -100,11 +115,13 @@ quiet_intervals low NoName is = refl
 quiet_intervals low (NotLive _ _) is = refl
 quiet_intervals low (Device _ _) is = cc
 quiet_intervals low (Suspended _) is = refl
+quiet_intervals low (Damaged _ _) is = refl
 
 -- the count of faults once one more command has its answer: only the first fault raised it
-pub faults_after : (first now : Option First) (a : Answer) (start low high : ℕ) → now ≡ first_with first a → low ≡ cond (is_some first) (one_more start) start
-    → AreIntervals low high (a ∷ []) → (IsSome first → high ≡ low) → high ≡ cond (is_some now) (one_more start) start
-faults_after (Some f) now a start low high is was are same = rw is (same refl ∙ was)
+pub faults_after : (first now : Option First) (a : Answer) (start low high : ℕ) → now ≡ first_with first a → low ≡ cond (is_failure first) (one_more start) start
+    → AreIntervals low high (a ∷ []) → (IsSome first → high ≡ low) → high ≡ cond (is_failure now) (one_more start) start
+faults_after (Some (FirstDevice _ _)) now a start low high is was are same = rw is (same refl ∙ was)
+faults_after (Some (FirstDamaged _ _)) now a start low high is was are same = rw is (same refl ∙ was)
 faults_after None now (Device b c) start low high is was are same = rw is (are.1.1 ∙ (are.1.0 ∙ ap one_more was))
 faults_after None now (Granted _ _) start low high is was are same = rw is (are ∙ was)
 faults_after None now (NoSpace _) start low high is was are same = rw is (are ∙ was)
@@ -113,118 +130,48 @@ faults_after None now (Done _) start low high is was are same = rw is (are ∙ w
 faults_after None now NoName start low high is was are same = rw is (are ∙ was)
 faults_after None now (NotLive _ _) start low high is was are same = rw is (are ∙ was)
 faults_after None now (Suspended _) start low high is was are same = rw is (are ∙ was)
+faults_after None now (Damaged _ _) start low high is was are same = rw is (are ∙ was)
 
--- a pool's record has as many units as its metaslab
-pub same_units : (p q : Pool) (done : List Replied) → IsPool p → HasRun p q done → q.record.units ≡ p.record.units
-same_units p q done was run = run.pool.record_units ∙ (ap (λ (m : MsState). m.units) run.stays ∙ sym was.record_units)
+-- what is kept of the device as a run goes on
 
--- the device under a command that leaves what is settled
-pub leaves_kept : (p q : Pool) (disk : DiskState) → LeavesSettled p q → Tells disk → IsKept (origin_of p.metaslab) p.metaslab.notes q.metaslab.notes disk disk
-leaves_kept p q disk leaves tells = record {
-  tells = tells;
-  rises = omega (arith, leaves.group);
-  same = λ _. refl;
-  unchanged = λ _ c may. may;
-  held_same = λ _ u. leaves.units u;
-  stored = λ lt. absurd (omega (arith, lt, leaves.group));
-}
+-- the same, told of a pool with the same origin
+remembered_as : (layout : Layout) (o x : Origin) (h : List Noted) (low : ℕ) (c : List ℕ) → o ≡ x → Remembers layout o h low c → Remembers layout x h low c
+remembered_as layout o x h low c same = subst (λ (y : Origin). Remembers layout y h low c) same
 
-pub kept_none : (o : Origin) (h : List Noted) (disk : DiskState) → Tells disk → IsKept o h h disk disk
-kept_none o h disk tells = record {
-  tells = tells;
-  rises = omega arith;
-  same = λ _. refl;
-  unchanged = λ _ c may. may;
-  held_same = λ _ u. refl;
-  stored = λ lt. absurd (omega (arith, lt));
-}
+-- a command that leaves what is settled, and does not touch the store
+pub leaves_remembered : (p q : Pool) (layout : Layout) (table : Table) (disk : DiskState) → OnlyNow disk → IsPool p → StaysButNotes p.metaslab q.metaslab → LeavesSettled p q → q.first ≡ p.first
+    → IsRemembered p layout table disk → StaysRemembered p q layout table disk disk
+leaves_remembered p q layout table disk only pool stays leaves first was =
+    let o : Origin = origin_of p.metaslab in
+    let origin : o ≡ origin_of q.metaslab = sym (ap origin_of stays) in
+    let grown : (c : List ℕ) → disk.may_leave c → Remembers layout o q.metaslab.notes (settled_of p.metaslab) c =
+    λ c may. remembers_grown layout o p.metaslab.notes q.metaslab.notes (settled_of p.metaslab) c leaves.grows (was.left c may) in
+    let group : settled_of q.metaslab ≡ settled_of p.metaslab = ap (λ (x : Origin). settled_group x q.metaslab.notes) (sym origin) ∙ leaves.group in
+    record {
+      run = started disk (Remembers layout o q.metaslab.notes o.opened)
+          (λ c left. remembers_lower layout o q.metaslab.notes (settled_of p.metaslab) o.opened c (opened_le_settled o p.metaslab.notes pool.sound.legal) (grown c (only c left)));
+      now = record {
+        tells = was.tells;
+        rests = λ none. was.rests (sym first ∙ none);
+        left = λ c may. remembered_as layout o (origin_of q.metaslab) q.metaslab.notes (settled_of q.metaslab) c origin (rw group (grown c may));
+      };
+    }
 
-holds_same : (c : List ℕ) (o : Origin) (h j : List Noted) → settled_group o j ≡ settled_group o h
-    → ((u : ℕ) → held o j (settled_group o h) u ≡ held o h (settled_group o h) u) → HoldsGroup c o h → HoldsGroup c o j
-holds_same c o h j settled same holds = record {
-  is = rw settled holds.is;
-  bits = λ u lt. holds.bits u lt ∙ (sym (same u) ∙ ap (λ t. held o j t u) (sym settled));
-  padding = holds.padding;
-}
-
-stored_later : (o : Origin) (h i j : List Noted) (r s t : DiskState) → IsKept o h i r s → IsKept o i j s t
-    → settled_group o h < settled_group o j → (c : List ℕ) → t.may_leave c → (settled_group o i < settled_group o j) ⊎ (settled_group o j ≡ settled_group o i) → HoldsGroup c o j
-stored_later o h i j r s t first then lt c may (inl rose) = then.stored rose c may
-stored_later o h i j r s t first then lt c may (inr same) =
-    holds_same c o i j same (then.held_same same) (first.stored (omega (arith, lt, same)) c (then.unchanged same c may))
-
-above_or_same : (a b : ℕ) → a ≤ b → (a < b) ⊎ (b ≡ a)
-above_or_same a b le = turn (cases_lt a b) where
-  turn : (a < b) ⊎ (b ≤ a) → (a < b) ⊎ (b ≡ a)
-  turn (inl lt) = inl lt
-  turn (inr ge) = inr (omega arith)
-
--- two commands one behind the other
-pub kept_both : (o : Origin) (h i j : List Noted) (r s t : DiskState) → IsKept o h i r s → IsKept o i j s t → IsKept o h j r t
-kept_both o h i j r s t first then = record {
-  tells = then.tells;
-  rises = omega (arith, first.rises, then.rises);
-  same = λ e.
-      let one : settled_group o i ≡ settled_group o h = omega (arith, e, first.rises, then.rises) in
-      let two : settled_group o j ≡ settled_group o i = omega (arith, e, one) in
-      then.same two ∙ first.same one;
-  unchanged = λ e c may.
-      let one : settled_group o i ≡ settled_group o h = omega (arith, e, first.rises, then.rises) in
-      let two : settled_group o j ≡ settled_group o i = omega (arith, e, one) in
-      first.unchanged one c (then.unchanged two c may);
-  held_same = λ e u.
-      let one : settled_group o i ≡ settled_group o h = omega (arith, e, first.rises, then.rises) in
-      let two : settled_group o j ≡ settled_group o i = omega (arith, e, one) in
-      ap (λ n. held o j n u) (sym one) ∙ (then.held_same two u ∙ (ap (λ n. held o i n u) one ∙ first.held_same one u));
-  stored = λ lt c may. stored_later o h i j r s t first then lt c may (above_or_same (settled_group o i) (settled_group o j) then.rises);
-}
-
--- a command that leaves what is settled, and the device
-
-pub kept_more : (p q r : Pool) (start mid : DiskState) → origin_of q.metaslab ≡ origin_of p.metaslab
-    → IsKept (origin_of p.metaslab) p.metaslab.notes q.metaslab.notes start mid → LeavesSettled q r → IsKept (origin_of p.metaslab) p.metaslab.notes r.metaslab.notes start mid
-kept_more p q r start mid origin first leaves =
-    kept_both (origin_of p.metaslab) p.metaslab.notes q.metaslab.notes r.metaslab.notes start mid mid first
-    (subst (λ (o : Origin). IsKept o q.metaslab.notes r.metaslab.notes mid mid) origin (leaves_kept q r mid leaves first.tells))
-
--- a commit that failed, behind commands none of which did
-half_after : (o : Origin) (h i j : List Noted) (r s t : DiskState) → IsKept o h i r s → settled_group o j ≡ settled_group o i
-    → ((u : ℕ) → held o j (settled_group o i) u ≡ held o i (settled_group o i) u) → Spares (Spared o) s t → IsHalfKept o h j r t
-half_after o h i j r s t first same units spares = record {
-  tells = spares.tells;
-  unchanged = λ e c may. let from = spares.images c may in (from.0, first.unchanged (omega (arith, e, same)) from.0 from.1, from.2);
-  stored = λ lt c may. let from = spares.images c may in (from.0, holds_same from.0 o i j same units (first.stored (omega (arith, lt, same)) from.0 from.1), from.2);
-}
-
--- a command behind a commit that failed
-half_later : (o : Origin) (h i j : List Noted) (r s : DiskState) → IsHalfKept o h i r s → settled_group o j ≡ settled_group o i
-    → ((u : ℕ) → held o j (settled_group o i) u ≡ held o i (settled_group o i) u) → IsHalfKept o h j r s
-half_later o h i j r s first same units = record {
-  tells = first.tells;
-  unchanged = λ e c may. first.unchanged (omega (arith, e, same)) c may;
-  stored = λ lt c may. let from = first.stored (omega (arith, lt, same)) c may in (from.0, holds_same from.0 o i j same units from.1, from.2);
-}
-
-pub half_more : (p q r : Pool) (start mid end : DiskState) → origin_of q.metaslab ≡ origin_of p.metaslab
-    → (q.first ≡ None → IsKept (origin_of p.metaslab) p.metaslab.notes q.metaslab.notes start mid)
-    → (IsSome q.first → IsHalfKept (origin_of p.metaslab) p.metaslab.notes q.metaslab.notes start mid)
-    → LeavesSettled q r → (Tells mid → Spares (Spared (origin_of p.metaslab)) mid end) → (IsSome q.first → end ≡ mid)
-    → IsHalfKept (origin_of p.metaslab) p.metaslab.notes r.metaslab.notes start end
-half_more p q r start mid end origin kept half leaves spares same = by_first q.first kept half same where
-  o : Origin
-  o = origin_of p.metaslab
-
-  group : settled_group o r.metaslab.notes ≡ settled_group o q.metaslab.notes
-  group = subst (λ (x : Origin). settled_group x r.metaslab.notes ≡ settled_group x q.metaslab.notes) origin leaves.group
-
-  units : (u : ℕ) → held o r.metaslab.notes (settled_group o q.metaslab.notes) u ≡ held o q.metaslab.notes (settled_group o q.metaslab.notes) u
-  units u = subst (λ (x : Origin). held x r.metaslab.notes (settled_group x q.metaslab.notes) u ≡ held x q.metaslab.notes (settled_group x q.metaslab.notes) u) origin (leaves.units u)
-
-  by_first : (first : Option First) → (first ≡ None → IsKept o p.metaslab.notes q.metaslab.notes start mid) → (IsSome first → IsHalfKept o p.metaslab.notes q.metaslab.notes start mid)
-      → (IsSome first → end ≡ mid) → IsHalfKept o p.metaslab.notes r.metaslab.notes start end
-  by_first None kept half same = let was = kept refl in half_after o p.metaslab.notes q.metaslab.notes r.metaslab.notes start mid end was group units (spares was.tells)
-  by_first (Some f) kept half same =
-      subst (λ d. IsHalfKept o p.metaslab.notes r.metaslab.notes start d) (sym (same refl)) (half_later o p.metaslab.notes q.metaslab.notes r.metaslab.notes start mid (half refl) group units)
+-- two runs one behind the other
+pub stays_then : (p q r : Pool) (mid_layout end_layout : Layout) (mid_table table : Table) (old mid new : DiskState) → end_layout ≡ mid_layout → StaysButNotes p.metaslab q.metaslab
+    → Grows (origin_of q.metaslab) q.metaslab.notes r.metaslab.notes
+    → StaysRemembered p q mid_layout mid_table old mid → StaysRemembered q r end_layout table mid new → StaysRemembered p r end_layout table old new
+stays_then p q r mid_layout end_layout mid_table table old mid new next stays grows first then =
+    let o : Origin = origin_of p.metaslab in
+    let origin : origin_of q.metaslab ≡ o = ap origin_of stays in
+    let grown : Grows o q.metaslab.notes r.metaslab.notes = subst (λ (x : Origin). Grows x q.metaslab.notes r.metaslab.notes) origin grows in
+    let run : LeavesOnly old mid (Remembers end_layout o q.metaslab.notes o.opened) = subst (λ (l : Layout). LeavesOnly old mid (Remembers l o q.metaslab.notes o.opened)) (sym next) first.run in
+    record {
+      run = joined old mid new (Remembers end_layout o r.metaslab.notes o.opened)
+          (weaker old mid (Remembers end_layout o q.metaslab.notes o.opened) (Remembers end_layout o r.metaslab.notes o.opened) (λ c was. remembers_grown end_layout o q.metaslab.notes r.metaslab.notes o.opened c grown was) run)
+          (subst (λ (x : Origin). LeavesOnly mid new (Remembers end_layout x r.metaslab.notes x.opened)) origin then.run);
+      now = then.now;
+    }
 
 -- one command more
 
@@ -289,3 +236,11 @@ idle_before (Some f) now a e idle = cc
 pub answers-push : (rs : List Reply) (r : Reply) → answers_of (rs ++ r ∷ []) ≡ answers_of rs ++ r.answer ∷ []
 answers-push [] r = refl
 answers-push (x ∷ rs) r = ap (λ l. x.answer ∷ l) (answers-push rs r)
+
+-- no damage is named where none was, and the last answer names none
+pub undamaged_push : (rs : List Reply) (r : Reply) → first_damage rs ≡ None → damage_in r.answer ≡ None → first_damage (rs ++ r ∷ []) ≡ None
+undamaged_push [] r none last = ap (λ d. first_of d None) last
+undamaged_push (x ∷ rs) r none last = by_first (damage_in x.answer) none (λ rest. undamaged_push rs r rest last) where
+  by_first : (d : Option OpenCause) → first_of d (first_damage rs) ≡ None → (first_damage rs ≡ None → first_damage (rs ++ r ∷ []) ≡ None) → first_of d (first_damage (rs ++ r ∷ [])) ≡ None
+  by_first None none rest = rest none
+  by_first (Some cause) none rest = cc

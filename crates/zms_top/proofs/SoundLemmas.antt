@@ -1,13 +1,11 @@
 -- How a run's facts pass from command to command.
-use Rattle.std.proofs.Common.{◌≡◌, ◌≢◌, ℕ, ◌+◌, ◌<◌, Bool, Option, Some, None, List, [], ◌∷◌, ◌++◌, refl, sym, ◌∙◌, ap, arith}
-use Rattle.std.specs.Prelude.{not, ◌&&◌, ◌||◌}
+use Rattle.std.proofs.Common.{◌≡◌, ◌≢◌, ℕ, ◌+◌, Option, Some, None, List, [], ◌∷◌, ◌++◌, refl, sym, ◌∙◌, ap, arith}
 use Rattle.std.proofs.lemmas.List.Elements.{All-push}
 use Rattle.zms_units.specs.declared.faults.First.{First}
 use Rattle.zms_units.specs.declared.segments.Group.{Group}
 use Rattle.ms_model.specs.Origin.{Origin}
-use Rattle.ms_model.specs.Units.{held, settled_group, collected_group}
+use Rattle.ms_model.specs.Units.{settled_group, collected_group}
 use Rattle.ms_model.specs.Legal.{IsLegal, MayDo}
-use Rattle.ms_model.specs.Gains.{is_gained, is_given}
 use Rattle.ms_model.specs.Gates.{open_group}
 use Rattle.ms_model.specs.declared.notes.Act.{Act}
 use Rattle.ms_model.specs.declared.notes.Act.TheVariants.{Collect, Settle, Unload}
@@ -15,16 +13,14 @@ use Rattle.ms_model.specs.declared.notes.Noted.{Noted}
 use Rattle.ms_model.specs.declared.notes.GateNote.{GateNote}
 use Rattle.ms_model.specs.declared.notes.GateNote.TheVariants.{Closed, Settled}
 use Rattle.ms_model.proofs.Histories.{LeavesGroups, no_unload, settled_note, collected_note, settled_group-push, collected_group-push, legal_push}
-use Rattle.ms_model.proofs.Overlaps.{unit_facts}
-use Rattle.ms_model.proofs.Held.{ChangesUpTo, held-quiet}
 use Rattle.zms_top.specs.Sound.{IsSound}
 use Rattle.ms_model.proofs.GateGroups.{open_group-push, synced_group-push}
 
 -- a note that leaves the groups, and what the settled one holds, leaves the pool sound
-pub sound_note : (o : Origin) (h : List Noted) (g : List GateNote) (set : ℕ → Bool) (first : Option First) (lane : ℕ) (act : Act)
-    → IsSound o h g set first → MayDo o h lane act → LeavesGroups act → (ChangesUpTo (settled_group o h) act → ⊥)
-    → IsSound o (h ++ record { lane = lane; act = act } ∷ []) g set first
-sound_note o h g set first lane act was may leaves above =
+pub sound_note : (o : Origin) (h : List Noted) (g : List GateNote) (first : Option First) (lane : ℕ) (act : Act)
+    → IsSound o h g first → MayDo o h lane act → LeavesGroups act
+    → IsSound o (h ++ record { lane = lane; act = act } ∷ []) g first
+sound_note o h g first lane act was may leaves =
     let note : Noted = record { lane = lane; act = act } in
     let s : settled_group o (h ++ note ∷ []) ≡ settled_group o h = settled_note o h lane act leaves in
     let k : collected_group o (h ++ note ∷ []) ≡ collected_group o h = collected_note o h lane act leaves in
@@ -35,14 +31,13 @@ sound_note o h g set first lane act was may leaves above =
       next = was.next ∙ ap (λ n. n + 1) (sym k);
       behind = omega (arith, s, k, was.behind);
       level = λ e. k ∙ (was.level e ∙ sym s);
-      bits = λ e u lt. was.bits e u lt ∙ (sym (held-quiet o h note (settled_group o h) u above) ∙ ap (λ t. held o (h ++ note ∷ []) t u) (sym s));
     }
 
 -- the open group is closed and collected: so it stands where its commit failed
-pub sound_collected : (o : Origin) (h : List Noted) (g : List GateNote) (set now : ℕ → Bool) (lane : ℕ) (group : Group) (fault : First)
-    → IsSound o h g set None → group.0 ≡ open_group o.opened g
-    → IsSound o (h ++ record { lane = lane; act = Collect group } ∷ []) (g ++ Closed lane group ∷ []) now (Some fault)
-sound_collected o h g set now lane group fault was is =
+pub sound_collected : (o : Origin) (h : List Noted) (g : List GateNote) (lane : ℕ) (group : Group) (fault : First)
+    → IsSound o h g None → group.0 ≡ open_group o.opened g
+    → IsSound o (h ++ record { lane = lane; act = Collect group } ∷ []) (g ++ Closed lane group ∷ []) (Some fault)
+sound_collected o h g lane group fault was is =
     let note : Noted = record { lane = lane; act = Collect group } in
     let s : settled_group o (h ++ note ∷ []) ≡ settled_group o h = settled_group-push o h note in
     let k : collected_group o (h ++ note ∷ []) ≡ group.0 = collected_group-push o h note in
@@ -54,15 +49,13 @@ sound_collected o h g set now lane group fault was is =
       next = open_group-push o.opened g (Closed lane group) ∙ ap (λ n. n + 1) (sym k);
       behind = omega (arith, s, k, is, was.next, level);
       level = λ e. cc;
-      bits = λ e. cc;
     }
 
 -- its commit is done, and it is settled
-pub sound_settled : (o : Origin) (h : List Noted) (g : List GateNote) (set now : ℕ → Bool) (lane by : ℕ) (group : Group)
-    → IsSound o h g set None → group.0 ≡ open_group o.opened g
-    → ((u : ℕ) → u < o.units → now u ≡ (not (is_given group.0 h u) && (is_gained group.0 h u || set u)))
-    → IsSound o ((h ++ record { lane = lane; act = Collect group } ∷ []) ++ record { lane = by; act = Settle group } ∷ []) ((g ++ Closed lane group ∷ []) ++ Settled group ∷ []) now None
-sound_settled o h g set now lane by group was is bits =
+pub sound_settled : (o : Origin) (h : List Noted) (g : List GateNote) (lane by : ℕ) (group : Group)
+    → IsSound o h g None → group.0 ≡ open_group o.opened g
+    → IsSound o ((h ++ record { lane = lane; act = Collect group } ∷ []) ++ record { lane = by; act = Settle group } ∷ []) ((g ++ Closed lane group ∷ []) ++ Settled group ∷ []) None
+sound_settled o h g lane by group was is =
     let collect : Noted = record { lane = lane; act = Collect group } in
     let settle : Noted = record { lane = by; act = Settle group } in
     let mid : List Noted = h ++ collect ∷ [] in
@@ -81,11 +74,4 @@ sound_settled o h g set now lane by group was is bits =
       next = open_group-push o.opened gate (Settled group) ∙ (open_group-push o.opened g (Closed lane group) ∙ ap (λ n. n + 1) (sym k2));
       behind = omega (arith, s2, k2);
       level = λ e. k2 ∙ sym s2;
-      bits = λ e u lt.
-          let quiet2 : held o (mid ++ settle ∷ []) group.0 u ≡ held o mid group.0 u = held-quiet o mid settle group.0 u (λ x. x) in
-          let quiet1 : held o mid group.0 u ≡ held o h group.0 u = held-quiet o h collect group.0 u (λ x. x) in
-          let adds = (unit_facts o h (settled_group o h) u was.legal).adds in
-          let same : set u ≡ held o h (settled_group o h) u = was.bits refl u lt in
-          let sums : held o h group.0 u ≡ (not (is_given group.0 h u) && (is_gained group.0 h u || held o h (settled_group o h) u)) = rw is_next adds in
-          bits u lt ∙ (ap (λ b. not (is_given group.0 h u) && (is_gained group.0 h u || b)) same ∙ (sym sums ∙ (sym quiet1 ∙ (sym quiet2 ∙ ap (λ t. held o (mid ++ settle ∷ []) t u) (sym s2)))));
     }

@@ -1,5 +1,5 @@
 -- A step of a lane at the metaslab, under a hold of the open group: it leaves the pool sound, and is a part of the lane's events.
-use Rattle.std.proofs.Common.{◌≡◌, ◌≢◌, ℕ, ◌<◌, ◌≤◌, Bool, false, cond, Option, List, [], ◌∷◌, ◌++◌, zero, suc, inl, inr, refl, sym, ◌∙◌, ap, subst, arith}
+use Rattle.std.proofs.Common.{◌≡◌, ◌≢◌, ℕ, ◌<◌, ◌≤◌, false, cond, Option, List, [], ◌∷◌, ◌++◌, zero, suc, inl, inr, refl, sym, ◌∙◌, ap, subst, arith}
 use Rattle.std.specs.Prelude.{◌==◌}
 use Rattle.std.proofs.Math.Dec.{eqb-suc-zero}
 use Rattle.std.proofs.lemmas.Bool.{ne_eqb}
@@ -19,18 +19,18 @@ use Rattle.ms_model.specs.declared.notes.Act.{Act}
 use Rattle.ms_model.specs.declared.notes.Act.TheVariants.{Load}
 use Rattle.ms_model.specs.declared.notes.Noted.{Noted}
 use Rattle.ms_model.specs.declared.notes.GateNote.{GateNote}
-use Rattle.ms_model.proofs.Held.{ChangesUpTo, held-quiet, held-as_opened}
+use Rattle.ms_model.proofs.Held.{held-as_opened}
 use Rattle.ms_model.proofs.Overlaps.{settled_le_collected}
 use Rattle.lane_steps.proofs.Steps.{quiet_none, quiet_both, follows_both}
 use Rattle.ms_core.specs.State.{Memory, MsState, origin_of, settled_of, StaysButNotes}
 use Rattle.txg_gate.specs.GateState.{GateState}
-use Rattle.zms_top.specs.Record.{is_set}
 use Rattle.zms_top.specs.Lines.{AreLoads}
 use Rattle.zms_top.specs.Pools.{Acted, IsPool, LeavesSettled}
 use Rattle.zms_top.specs.declared.pool.Pool.{Pool}
-use Rattle.zms_top.specs.Sound.{IsSound, Loads, loaded, loads, MayLoad}
+use Rattle.zms_top.specs.Sound.{IsSound, Grows, Loads, loaded, loads, MayLoad}
 use Rattle.ms_model.proofs.Histories.{LeavesGroups, settled_note, collected_note}
 use Rattle.zms_top.proofs.SoundLemmas.{sound_note}
+use Rattle.zms_top.proofs.Growing.{grows_none, grows_then, grows_may}
 
 -- a note of the keeper's is quiet for a lane
 pub quiet_keeper : (lane : ℕ) (h : List Noted) (by : ℕ) (act : Act) → right_of (record { lane = by; act = act }) ≡ 0 → 1 ≤ lane
@@ -52,18 +52,18 @@ loads_quiet other lane h j some (loads is) = quiet_keeper other h lane Load refl
 pub quiet_other : {N : Type 0} (right : N → ℕ) (other : ℕ) (h : List N) (n : N) → (other ≡ right n → ⊥) → Quiet right other h (h ++ n ∷ [])
 quiet_other right other h n apart = record { more = n ∷ []; is = refl; none = ap (λ b. cond b (n ∷ []) []) (ne_eqb other (right n) apart) }
 
-sound_loads : (o : Origin) (lane : ℕ) (h j : List Noted) (g : List GateNote) (set : ℕ → Bool) (first : Option First)
-    → IsSound o h g set first → Loads lane h j → IsSound o j g set first
-sound_loads o lane h j g set first was (loaded is) = was
-sound_loads o lane h j g set first was (loads is) = sound_note o h g set first lane Load was is tt (λ x. x)
+sound_loads : (o : Origin) (lane : ℕ) (h j : List Noted) (g : List GateNote) (first : Option First)
+    → IsSound o h g first → Loads lane h j → IsSound o j g first
+sound_loads o lane h j g first was (loaded is) = was
+sound_loads o lane h j g first was (loads is) = sound_note o h g first lane Load was is tt
 
 settled_loads : (o : Origin) (lane : ℕ) (h j : List Noted) → Loads lane h j → settled_group o j ≡ settled_group o h
 settled_loads o lane h j (loaded is) = refl
 settled_loads o lane h j (loads is) = settled_note o h lane Load tt
 
-held_loads : (o : Origin) (lane : ℕ) (h j : List Noted) (t u : ℕ) → Loads lane h j → held o j t u ≡ held o h t u
-held_loads o lane h j t u (loaded is) = refl
-held_loads o lane h j t u (loads is) = held-quiet o h (record { lane = lane; act = Load }) t u (λ x. x)
+pub grows_loads : (o : Origin) (lane : ℕ) (h j : List Noted) → Loads lane h j → Grows o h j
+grows_loads o lane h j (loaded is) = grows_none o h
+grows_loads o lane h j (loads is) = grows_may o h lane Load is
 
 pub collected_loads : (o : Origin) (lane : ℕ) (h j : List Noted) → Loads lane h j → collected_group o j ≡ collected_group o h
 collected_loads o lane h j (loaded is) = refl
@@ -73,11 +73,11 @@ collected_loads o lane h j (loads is) = collected_note o h lane Load tt
 pub may_load_leaves : (p q : Pool) (lane : ℕ) → MayLoad lane p.metaslab.notes q.metaslab.notes → LeavesSettled p q
 may_load_leaves p q lane (inl same) = record {
   group = ap (settled_group (origin_of p.metaslab)) same;
-  units = λ u. ap (λ l. held (origin_of p.metaslab) l (settled_of p.metaslab) u) same;
+  grows = subst (Grows (origin_of p.metaslab) p.metaslab.notes) (sym same) (grows_none (origin_of p.metaslab) p.metaslab.notes);
 }
 may_load_leaves p q lane (inr in_memory) = record {
   group = settled_loads (origin_of p.metaslab) lane p.metaslab.notes q.metaslab.notes in_memory;
-  units = λ u. held_loads (origin_of p.metaslab) lane p.metaslab.notes q.metaslab.notes (settled_of p.metaslab) u in_memory;
+  grows = grows_loads (origin_of p.metaslab) lane p.metaslab.notes q.metaslab.notes in_memory;
 }
 
 pub same_leaves : (p q : Pool) → q.metaslab.notes ≡ p.metaslab.notes → LeavesSettled p q
@@ -110,41 +110,39 @@ kept_then lane h before note some was = record {
 }
 
 -- what a step leaves: the pool sound, what is settled as it was, and one step of the lane in the metaslab's journal
-pub record StepLeaves (o : Origin) (lane : ℕ) (step : Step Noted) (h new : List Noted) (g : List GateNote) (set : ℕ → Bool) (first : Option First) : Type 0 where
-  pub sound : IsSound o new g set first
+pub record StepLeaves (o : Origin) (lane : ℕ) (step : Step Noted) (h new : List Noted) (g : List GateNote) (first : Option First) : Type 0 where
+  pub sound : IsSound o new g first
   pub group_stays : settled_group o new ≡ settled_group o h
-  pub held_stays : (u : ℕ) → held o new (settled_group o h) u ≡ held o h (settled_group o h) u
+  pub grows : Grows o h new
   pub follows : Follows right_of lane h (step ∷ []) new
   pub others : (other : ℕ) → 1 ≤ other → other ≢ lane → Quiet right_of other h new
   pub kept : LoadsKept lane h new
 
 -- a look without a note, at a metaslab that was loaded first where it needed to be
-pub look_leaves : (o : Origin) (lane : ℕ) (h before : List Noted) (g : List GateNote) (set : ℕ → Bool) (first : Option First)
-    → 1 ≤ lane → IsSound o h g set first → Loads lane h before → StepLeaves o lane (look before) h before g set first
-look_leaves o lane h before g set first some was in_memory = record {
-  sound = sound_loads o lane h before g set first was in_memory;
+pub look_leaves : (o : Origin) (lane : ℕ) (h before : List Noted) (g : List GateNote) (first : Option First)
+    → 1 ≤ lane → IsSound o h g first → Loads lane h before → StepLeaves o lane (look before) h before g first
+look_leaves o lane h before g first some was in_memory = record {
+  sound = sound_loads o lane h before g first was in_memory;
   group_stays = settled_loads o lane h before in_memory;
-  held_stays = λ u. held_loads o lane h before (settled_group o h) u in_memory;
+  grows = grows_loads o lane h before in_memory;
   follows = (loads_quiet lane lane h before some in_memory, (tt, subst (λ l. Quiet right_of lane l before) (sym (append-nil before)) (quiet_none right_of lane before)));
   others = λ other low apart. loads_quiet other lane h before low in_memory;
   kept = kept_loads lane h before in_memory;
 }
 
--- a note of the lane's, of a group above the settled one
-pub note_leaves : (o : Origin) (lane : ℕ) (act : Act) (h before new : List Noted) (g : List GateNote) (set : ℕ → Bool) (first : Option First)
-    → 1 ≤ lane → IsSound o h g set first → Loads lane h before → new ≡ before ++ record { lane = lane; act = act } ∷ [] → MayDo o before lane act
-    → LeavesGroups act → right_of (record { lane = lane; act = act }) ≡ lane → (ChangesUpTo (settled_group o h) act → ⊥)
-    → StepLeaves o lane (noting before (record { lane = lane; act = act })) h new g set first
-note_leaves o lane act h before new g set first some was in_memory is may leaves right above =
+-- a note of the lane's
+pub note_leaves : (o : Origin) (lane : ℕ) (act : Act) (h before new : List Noted) (g : List GateNote) (first : Option First)
+    → 1 ≤ lane → IsSound o h g first → Loads lane h before → new ≡ before ++ record { lane = lane; act = act } ∷ [] → MayDo o before lane act
+    → LeavesGroups act → right_of (record { lane = lane; act = act }) ≡ lane
+    → StepLeaves o lane (noting before (record { lane = lane; act = act })) h new g first
+note_leaves o lane act h before new g first some was in_memory is may leaves right =
     let note : Noted = record { lane = lane; act = act } in
-    let mid : StepLeaves o lane (look before) h before g set first = look_leaves o lane h before g set first some was in_memory in
-    let quiet : ChangesUpTo (settled_group o before) act → ⊥ = rw mid.group_stays above in
-    let step : IsSound o (before ++ note ∷ []) g set first = sound_note o before g set first lane act mid.sound may leaves quiet in
+    let mid : StepLeaves o lane (look before) h before g first = look_leaves o lane h before g first some was in_memory in
+    let step : IsSound o (before ++ note ∷ []) g first = sound_note o before g first lane act mid.sound may leaves in
     record {
-      sound = subst (λ l. IsSound o l g set first) (sym is) step;
+      sound = subst (λ l. IsSound o l g first) (sym is) step;
       group_stays = ap (settled_group o) is ∙ (settled_note o before lane act leaves ∙ mid.group_stays);
-      held_stays = λ u.
-          ap (λ l. held o l (settled_group o h) u) is ∙ (held-quiet o before note (settled_group o h) u above ∙ mid.held_stays u);
+      grows = subst (Grows o h) (sym is) (grows_then o h before (before ++ note ∷ []) mid.grows (grows_may o before lane act may));
       follows = (loads_quiet lane lane h before some in_memory, (right, subst (Quiet right_of lane (before ++ note ∷ [])) (sym is) (quiet_none right_of lane (before ++ note ∷ []))));
       others = λ other low apart.
           subst (Quiet right_of other h) (sym is)
@@ -178,7 +176,7 @@ nothing_did p lane line was is = record {
 
 -- from the pool's parts to the pool
 
-stepped_pool : (p : Pool) (n : List Noted) (r : ℕ) (memory : Memory) (counts : List ℕ) → IsPool p → IsSound (origin_of p.metaslab) n p.gate.notes (is_set p.record.bytes.items) p.first
+stepped_pool : (p : Pool) (n : List Noted) (r : ℕ) (memory : Memory) (counts : List ℕ) → IsPool p → IsSound (origin_of p.metaslab) n p.gate.notes p.first
     → IsPool (record p { metaslab = record p.metaslab { notes = n; room = r; memory = memory }; gate = record p.gate { counts = counts } })
 stepped_pool p n r memory counts was sound = record {
   least_units = was.least_units;
@@ -187,7 +185,6 @@ stepped_pool p n r memory counts was sound = record {
   opened = was.opened;
   base_is = was.base_is;
   segs = was.segs;
-  record_units = was.record_units;
   sound = sound;
 }
 
@@ -211,7 +208,7 @@ abbrev pub step_events : List GateNote → Step Noted → List Event
 step_events g step = at_gate (look g) ∷ ((at_metaslab 0 step ∷ []) ++ (at_gate (look g) ∷ []))
 
 pub step_did : (p : Pool) (m : MsState) (g : GateState) (lane : ℕ) (line : List Event → List Event → Type 0) (step : Step Noted) → IsPool p → StaysButNotes p.metaslab m → StaysButHolds p.gate g
-    → StepLeaves (origin_of p.metaslab) lane step p.metaslab.notes m.notes p.gate.notes (is_set p.record.bytes.items) p.first
+    → StepLeaves (origin_of p.metaslab) lane step p.metaslab.notes m.notes p.gate.notes p.first
     → ((kept : List Event) → AreLoads lane 1 kept → line (step_events p.gate.notes step) kept) → StepDid p lane line m g
 step_did p m g lane line step was stays held leaves is =
     subst (λ x. StepDid p lane line x g) (sym stays)
@@ -231,7 +228,7 @@ step_did p m g lane line step was stays held leaves is =
         stays = refl;
         rises = omega arith;
       };
-      leaves = record { group = leaves.group_stays; units = leaves.held_stays };
+      leaves = record { group = leaves.group_stays; grows = leaves.grows };
     }))
 
 -- the open group lies above the settled one

@@ -1,46 +1,50 @@
 -- A sync, from what its parts say.
-use Rattle.std.proofs.Common.{◌≡◌, ℕ, ◌+◌, ◌<◌, ◌≤◌, false, cond, Option, Some, None, List, [], ◌∷◌, ◌++◌, zero, suc, refl, sym, ◌∙◌, ap, subst, arith}
-use Rattle.std.specs.Prelude.{◌==◌, not, ◌&&◌, ◌||◌, IsSome}
+use Rattle.std.proofs.Common.{◌≡◌, ℕ, ◌+◌, ◌<◌, ◌≤◌, false, cond, Some, None, List, [], ◌∷◌, ◌++◌, zero, suc, refl, sym, ◌∙◌, ap, subst, arith}
+use Rattle.std.specs.Prelude.{◌==◌, Result, Ok, Err, IfOk, OnErr}
 use Rattle.std.specs.List.{Contains}
 use Rattle.std.proofs.lemmas.List.{append-nil}
 use Rattle.std.proofs.Math.Dec.{eqb-suc-zero}
 use Rattle.std.proofs.lemmas.List.Elements.{Contains-append_right}
 use Rattle.zms_units.specs.declared.faults.First.{First}
-use Rattle.zms_units.specs.declared.faults.First.TheVariants.{Device as FirstDevice}
+use Rattle.zms_units.specs.declared.faults.First.TheVariants.{Device as FirstDevice, Damaged as FirstDamaged}
 use Rattle.zms_units.specs.declared.segments.Group.{Group}
 use Rattle.ms_model.specs.Origin.{Origin}
-use Rattle.ms_model.specs.Units.{held, settled_group, collected_group}
+use Rattle.ms_model.specs.Units.{settled_group, collected_group}
 use Rattle.ms_model.specs.Gains.{is_gained, is_given}
 use Rattle.ms_model.specs.Gates.{open_group, synced_group}
 use Rattle.ms_model.specs.Steps.{look, noting, Quiet}
 use Rattle.ms_model.specs.Parts.{right_of, gate_right}
-use Rattle.ms_model.specs.Events.{at_gate, at_metaslab}
+use Rattle.ms_model.specs.Events.{Event, at_gate, at_metaslab}
 use Rattle.ms_model.specs.declared.notes.Act.TheVariants.{Collect, Settle}
 use Rattle.ms_model.specs.declared.notes.Noted.{Noted}
 use Rattle.ms_model.specs.declared.notes.GateNote.{GateNote}
 use Rattle.ms_model.specs.declared.notes.GateNote.TheVariants.{Closed, Settled}
-use Rattle.ms_model.proofs.Held.{held-quiet}
-use Rattle.ms_model.proofs.Histories.{settled_group-push, collected_group-push}
+use Rattle.ms_model.specs.Legal.{IsLegal}
+use Rattle.ms_model.proofs.Histories.{settled_group-push, collected_group-push, is_gained-push, is_given-push, legal_push}
+use Rattle.zms_units.specs.Runs.{AreMaximalRuns}
+use Rattle.zms_units.proofs.Bools.{or_false}
+use Rattle.vdev_map.specs.declared.layout.Batch.{Batch}
+use Rattle.vdev_map.specs.declared.layout.Layout.{Layout}
+use Rattle.vdev_map.specs.declared.table.Table.{Table}
+use Rattle.meta_store.proofs.HeldRuns.{maximal_same}
 use Rattle.lane_steps.proofs.Steps.{quiet_none, quiet_both}
 use Rattle.ms_core.specs.State.{MsState, origin_of, settled_of, collected_of, StaysButNotes}
 use Rattle.txg_gate.specs.Closings.{closings_of}
 use Rattle.txg_gate.proofs.Journal.{closings_push, closings_settled}
-use Rattle.zms_dev.specs.Causes.{one_more}
-use Rattle.zms_dev.specs.Disk.{DiskState, Tells}
 use Rattle.txg_gate.specs.GateState.{GateState}
-use Rattle.zms_top.specs.Record.{IsRecord, IsStored, is_set}
-use Rattle.zms_top.specs.Sound.{IsSound, shape_of, HoldsGroup}
+use Rattle.zms_top.specs.Sound.{IsSound, Grows, shape_of}
 use Rattle.zms_top.specs.Answers.{first_with, synced_after}
 use Rattle.cmd_text.specs.declared.script.What.TheVariants.{Sync}
-use Rattle.zms_top.specs.Lines.{SyncLine, SeenSettled, NotedAtEach, Collects, AreIntervals}
-use Rattle.zms_top.specs.Pools.{Acted, IsPool, IsClosed, IsCommitted, IsKept, LeavesSettled}
+use Rattle.zms_top.specs.Lines.{IsUnsettled, SyncLine, SeenSettled, NotedAtEach, Collects, AreIntervals}
+use Rattle.zms_top.specs.Pools.{Acted, IsPool, IsStoreOf, IsClosed, IsDue, IsCommitted, LeavesSettled}
 use Rattle.zms_top.specs.declared.replies.Answer.{Answer}
 use Rattle.zms_top.specs.declared.pool.Pool.{Pool}
-use Rattle.zms_top.specs.declared.replies.Answer.TheVariants.{Done, Device, Suspended}
+use Rattle.zms_top.specs.declared.replies.Answer.TheVariants.{Done, Device, Damaged, Suspended}
 use Rattle.ms_model.proofs.GateGroups.{open_group-push, synced_group-push}
 use Rattle.zms_top.proofs.SoundLemmas.{sound_collected, sound_settled}
 use Rattle.zms_top.proofs.StepLemmas.{quiet_keeper, quiet_other, nothing_did}
-use Rattle.zms_top.proofs.PoolLemmas.{pool_grows}
+use Rattle.zms_top.proofs.PoolLemmas.{pool_grows, store_leaves}
+use Rattle.zms_top.proofs.Growing.{grows_none, grows_may}
 
 -- nothing was done, and the kept fault is told
 pub suspended_did : (p : Pool) (lane : ℕ) (fault : First) → IsPool p → p.first ≡ Some fault
@@ -69,34 +73,25 @@ collects lane group g h seen = record {
 }
 
 -- a group that was collected and not settled leaves what is settled
-collected_leaves : (p q : Pool) (lane : ℕ) (group : Group) → q.metaslab.notes ≡ p.metaslab.notes ++ record { lane = lane; act = Collect group } ∷ [] → LeavesSettled p q
-collected_leaves p q lane group notes =
+pub collected_leaves : (p q : Pool) (lane : ℕ) (group : Group) → IsPool p → group.0 ≡ open_group p.gate.opened p.gate.notes
+    → q.metaslab.notes ≡ p.metaslab.notes ++ record { lane = lane; act = Collect group } ∷ [] → LeavesSettled p q
+collected_leaves p q lane group was is notes =
     let o : Origin = origin_of p.metaslab in
-    let collect : Noted = record { lane = lane; act = Collect group } in
+    let is_open : group.0 ≡ open_group p.metaslab.opened p.gate.notes = rw (← was.opened) is in
     record {
-      group = ap (settled_group o) notes ∙ settled_group-push o p.metaslab.notes collect;
-      units = λ u. ap (λ l. held o l (settled_of p.metaslab) u) notes ∙ held-quiet o p.metaslab.notes collect (settled_of p.metaslab) u (λ x. x);
+      group = ap (settled_group o) notes ∙ settled_group-push o p.metaslab.notes (record { lane = lane; act = Collect group });
+      grows = subst (Grows o p.metaslab.notes) (sym notes) (grows_may o p.metaslab.notes lane (Collect group) (is_open ∙ was.sound.next));
     }
-
--- so does a sync after which a fault is kept
-pub sync_leaves : (p mid q : Pool) (lane : ℕ) (group : Group) (low high : ℕ) (answer : Answer)
-    → p.first ≡ None → IsClosed p mid lane group → IsCommitted mid q lane group low high answer → IsSome q.first → LeavesSettled p q
-sync_leaves p mid q lane group low high answer idle closed (IsCommitted.settled is gate notes stays first base units bits same) some = absurd (never q.first (first ∙ (closed.first ∙ idle)) some) where
-  never : (x : Option First) → x ≡ None → IsSome x → ⊥
-  never None none some = cc
-  never (Some f) none some = cc
-sync_leaves p mid q lane group low high answer idle closed (IsCommitted.failed is once gate metaslab first base units bits) some =
-    collected_leaves p q lane group (ap (λ (m : MsState). m.notes) metaslab ∙ closed.notes)
 
 -- what stands after a group was closed and collected
 pub record ClosedFacts (p q : Pool) (group : Group) : Type 0 where
   pub next : group.0 ≡ settled_of q.metaslab + 1
-  pub collected : group.0 ≤ collected_of q.metaslab
+  pub collected : collected_of q.metaslab ≡ group.0
   pub gate_next : group.0 ≡ synced_group q.gate.opened q.gate.notes + 1
   pub gate_closed : group.0 < open_group q.gate.opened q.gate.notes
 
-pub closed_facts : (p q : Pool) (lane : ℕ) (group : Group) → IsPool p → p.first ≡ None → IsClosed p q lane group → ClosedFacts p q group
-closed_facts p q lane group was idle is =
+pub closed_facts : (p q : Pool) (lane : ℕ) (group : Group) (batch : Batch) → IsPool p → p.first ≡ None → IsClosed p q lane group batch → ClosedFacts p q group
+closed_facts p q lane group batch was idle is =
     let o : Origin = origin_of p.metaslab in
     let origin : origin_of q.metaslab ≡ o = ap origin_of is.stays in
     let opened : q.gate.opened ≡ p.metaslab.opened = ap (λ (g : GateState). g.opened) is.gate ∙ was.opened in
@@ -113,24 +108,25 @@ closed_facts p q lane group was idle is =
     let level = was.sound.level idle in
     record {
       next = omega (arith, is_open, was.sound.next, level, settled);
-      collected = omega (arith, collected);
+      collected = collected;
       gate_next = omega (arith, is_open, was.sound.next, was.sound.synced, level, synced);
       gate_closed = omega (arith, open_now);
     }
 
--- the device failed: the closed group stays behind
-pub failed_did : (p q : Pool) (lane : ℕ) (group : Group) (low high : ℕ)
+-- a fault is kept: the closed group stays behind
+pub unsettled_did : (p q : Pool) (lane : ℕ) (group : Group) (fault : First) (answer : Answer)
     → IsPool p → p.first ≡ None → 1 ≤ lane → group.0 ≡ open_group p.gate.opened p.gate.notes
     → q.gate.opened ≡ p.gate.opened → q.gate.notes ≡ p.gate.notes ++ Closed lane group ∷ []
     → q.metaslab.notes ≡ p.metaslab.notes ++ record { lane = lane; act = Collect group } ∷ [] → StaysButNotes p.metaslab q.metaslab
-    → q.base ≡ p.base → q.record.units ≡ p.record.units → q.first ≡ Some (FirstDevice low high) → high ≡ one_more low
-    → Acted p q lane (SyncLine (shape_of (origin_of p.metaslab)) lane p.first (Device low high))
-failed_did p q lane group low high was idle some is opened gate notes stays base units fault once =
+    → q.base ≡ p.base → q.first ≡ Some fault
+    → ((es kept : List Event) → IsUnsettled (shape_of (origin_of p.metaslab)) lane es kept → SyncLine (shape_of (origin_of p.metaslab)) lane None answer es kept)
+    → Acted p q lane (SyncLine (shape_of (origin_of p.metaslab)) lane p.first answer)
+unsettled_did p q lane group fault answer was idle some is opened gate notes stays base kept_is line =
     let o : Origin = origin_of p.metaslab in
     let is_open : group.0 ≡ open_group p.metaslab.opened p.gate.notes = rw (← was.opened) is in
-    let sound_was : IsSound o p.metaslab.notes p.gate.notes (is_set p.record.bytes.items) None = subst (IsSound o p.metaslab.notes p.gate.notes (is_set p.record.bytes.items)) idle was.sound in
-    let sound_now : IsSound o q.metaslab.notes q.gate.notes (is_set q.record.bytes.items) q.first =
-    rw (fault, notes, gate) (sound_collected o p.metaslab.notes p.gate.notes (is_set p.record.bytes.items) (is_set q.record.bytes.items) lane group (FirstDevice low high) sound_was is_open) in
+    let sound_was : IsSound o p.metaslab.notes p.gate.notes None = subst (IsSound o p.metaslab.notes p.gate.notes) idle was.sound in
+    let sound_now : IsSound o q.metaslab.notes q.gate.notes q.first =
+    rw (kept_is, notes, gate) (sound_collected o p.metaslab.notes p.gate.notes lane group fault sound_was is_open) in
     let quiet : Quiet right_of lane p.metaslab.notes q.metaslab.notes = rw notes (quiet_keeper lane p.metaslab.notes lane (Collect group) refl some) in
     let after : Quiet gate_right lane (p.gate.notes ++ Closed lane group ∷ []) q.gate.notes = rw gate (quiet_none gate_right lane (p.gate.notes ++ Closed lane group ∷ [])) in
     let still : Quiet gate_right 0 (q.gate.notes ++ []) q.gate.notes = subst (λ l. Quiet gate_right 0 l q.gate.notes) (sym (append-nil q.gate.notes)) (quiet_none gate_right 0 q.gate.notes) in
@@ -149,8 +145,8 @@ failed_did p q lane group low high was idle some is opened gate notes stays base
           gate = λ other low apart. rw gate (quiet_other gate_right other p.gate.notes (Closed lane group) apart);
         };
       };
-      line_is = rw idle (record { before = p.gate.notes; group = group; collected = collects lane group q.gate.notes p.metaslab.notes seen; is_open = is_open; once = once; whole = refl });
-      pool = pool_grows p q was stays opened base units sound_now;
+      line_is = rw idle (line _ _ (record { before = p.gate.notes; group = group; collected = collects lane group q.gate.notes p.metaslab.notes seen; is_open = is_open; whole = refl }));
+      pool = pool_grows p q was stays opened base sound_now;
       stays = stays;
       rises = rises;
     }
@@ -160,19 +156,18 @@ pub done_did : (p q : Pool) (lane : ℕ) (group : Group)
     → IsPool p → p.first ≡ None → 1 ≤ lane → group.0 ≡ open_group p.gate.opened p.gate.notes
     → q.gate.opened ≡ p.gate.opened → q.gate.notes ≡ (p.gate.notes ++ Closed lane group ∷ []) ++ Settled group ∷ []
     → q.metaslab.notes ≡ (p.metaslab.notes ++ record { lane = lane; act = Collect group } ∷ []) ++ record { lane = lane; act = Settle group } ∷ [] → StaysButNotes p.metaslab q.metaslab
-    → q.base ≡ p.base → q.record.units ≡ p.record.units → q.first ≡ None
-    → ((u : ℕ) → u < p.metaslab.units → is_set q.record.bytes.items u ≡ (not (is_given group.0 p.metaslab.notes u) && (is_gained group.0 p.metaslab.notes u || is_set p.record.bytes.items u)))
+    → q.base ≡ p.base → q.first ≡ None
     → Acted p q lane (SyncLine (shape_of (origin_of p.metaslab)) lane p.first (Done group))
-done_did p q lane group was idle some is opened gate notes stays base units first bits =
+done_did p q lane group was idle some is opened gate notes stays base first =
     let o : Origin = origin_of p.metaslab in
     let collect : Noted = record { lane = lane; act = Collect group } in
     let settle : Noted = record { lane = lane; act = Settle group } in
     let mid : List Noted = p.metaslab.notes ++ collect ∷ [] in
     let closed : List GateNote = p.gate.notes ++ Closed lane group ∷ [] in
     let is_open : group.0 ≡ open_group p.metaslab.opened p.gate.notes = rw (← was.opened) is in
-    let sound_was : IsSound o p.metaslab.notes p.gate.notes (is_set p.record.bytes.items) None = subst (IsSound o p.metaslab.notes p.gate.notes (is_set p.record.bytes.items)) idle was.sound in
-    let sound_now : IsSound o q.metaslab.notes q.gate.notes (is_set q.record.bytes.items) q.first =
-    rw (first, notes, gate) (sound_settled o p.metaslab.notes p.gate.notes (is_set p.record.bytes.items) (is_set q.record.bytes.items) lane lane group sound_was is_open bits) in
+    let sound_was : IsSound o p.metaslab.notes p.gate.notes None = subst (IsSound o p.metaslab.notes p.gate.notes) idle was.sound in
+    let sound_now : IsSound o q.metaslab.notes q.gate.notes q.first =
+    rw (first, notes, gate) (sound_settled o p.metaslab.notes p.gate.notes lane lane group sound_was is_open) in
     let quiet : Quiet right_of lane p.metaslab.notes q.metaslab.notes =
     rw notes (quiet_both right_of lane p.metaslab.notes mid (mid ++ settle ∷ []) (quiet_keeper lane p.metaslab.notes lane (Collect group) refl some) (quiet_keeper lane mid lane (Settle group) refl some)) in
     let still : Quiet right_of lane (q.metaslab.notes ++ []) q.metaslab.notes = subst (λ l. Quiet right_of lane l q.metaslab.notes) (sym (append-nil q.metaslab.notes)) (quiet_none right_of lane q.metaslab.notes) in
@@ -213,19 +208,10 @@ done_did p q lane group was idle some is opened gate notes stays base units firs
         gate_before = closed;
         kept_is = refl;
       });
-      pool = pool_grows p q was stays opened base units sound_now;
+      pool = pool_grows p q was stays opened base sound_now;
       stays = stays;
       rises = rises;
     }
-
--- the images that a stop may leave then hold the settled group
-pub stored_holds : (q : Pool) (group : Group) (c : List ℕ) → IsPool q → q.first ≡ None → settled_of q.metaslab ≡ group.0
-    → IsStored c group.0 q.record.units q.record.bytes.items → HoldsGroup c (origin_of q.metaslab) q.metaslab.notes
-stored_holds q group c was idle settled stored = record {
-  is = rw settled (subst (λ n. IsRecord c group.0 n) was.record_units stored.is);
-  bits = λ u lt. stored.bits u (omega (arith, lt, was.record_units)) ∙ was.sound.bits idle u lt;
-  padding = λ u le lt. stored.padding u (omega (arith, le, was.record_units)) (rw was.record_units lt);
-}
 
 -- a sync that closed a group, whatever the device did
 pub record SyncDid (p q : Pool) (lane low high : ℕ) (answer : Answer) : Type 0 where
@@ -237,58 +223,88 @@ pub record SyncDid (p q : Pool) (lane low high : ℕ) (answer : Answer) : Type 0
 pub stays_both : (a b c : MsState) → StaysButNotes a b → StaysButNotes b c → StaysButNotes a c
 stays_both a b c first then = then ∙ ap (λ (m : MsState). let r : MsState = record m { notes = c.notes; room = c.room; memory = c.memory } in r) first
 
-pub sync_did : (p mid q : Pool) (lane : ℕ) (group : Group) (low high : ℕ) (answer : Answer)
-    → IsPool p → p.first ≡ None → 1 ≤ lane → IsClosed p mid lane group → IsCommitted mid q lane group low high answer → SyncDid p q lane low high answer
-sync_did p mid q lane group low high answer was idle some closed (IsCommitted.settled is gate notes stays first base units bits same) =
+pub sync_did : (p mid q : Pool) (lane : ℕ) (group : Group) (batch : Batch) (low high : ℕ) (answer : Answer)
+    → IsPool p → p.first ≡ None → 1 ≤ lane → IsClosed p mid lane group batch → IsCommitted mid q lane group low high answer → SyncDid p q lane low high answer
+sync_did p mid q lane group batch low high answer was idle some closed (IsCommitted.settled is gate notes stays first base same) =
     let gate_notes : q.gate.notes ≡ (p.gate.notes ++ Closed lane group ∷ []) ++ Settled group ∷ [] =
     ap (λ (g : GateState). g.notes) gate ∙ ap (λ (g : GateState). g.notes ++ Settled group ∷ []) closed.gate in
-    let all : (u : ℕ) → u < p.metaslab.units → is_set q.record.bytes.items u ≡ (not (is_given group.0 p.metaslab.notes u) && (is_gained group.0 p.metaslab.notes u || is_set p.record.bytes.items u)) =
-    λ u lt. bits u ∙ closed.bits u lt in
     let idle_now : q.first ≡ None = first ∙ (closed.first ∙ idle) in
     rw is (record {
       acted = done_did p q lane group was idle some closed.is_open (ap (λ (g : GateState). g.opened) gate ∙ ap (λ (g : GateState). g.opened) closed.gate) gate_notes
           (notes ∙ ap (λ l. l ++ record { lane = lane; act = Settle group } ∷ []) closed.notes) (stays_both p.metaslab mid.metaslab q.metaslab closed.stays stays)
-          (base ∙ closed.base) (units ∙ closed.units) idle_now all;
+          (base ∙ closed.base) idle_now;
       first = rw idle idle_now;
       intervals = same;
       synced = ap (λ (x : Origin). settled_group x q.metaslab.notes) (ap origin_of (stays_both p.metaslab mid.metaslab q.metaslab closed.stays stays))
           ∙ (ap (settled_group (origin_of p.metaslab)) notes ∙ settled_group-push (origin_of p.metaslab) mid.metaslab.notes (record { lane = lane; act = Settle group }));
     })
-sync_did p mid q lane group low high answer was idle some closed (IsCommitted.failed is once gate metaslab first base units bits) =
+sync_did p mid q lane group batch low high answer was idle some closed (IsCommitted.failed is once gate metaslab first base) =
     let gate_notes : q.gate.notes ≡ p.gate.notes ++ Closed lane group ∷ [] = ap (λ (g : GateState). g.notes) (gate ∙ closed.gate) in
     rw is (record {
-      acted = failed_did p q lane group low high was idle some closed.is_open (ap (λ (g : GateState). g.opened) (gate ∙ closed.gate)) gate_notes
+      acted = unsettled_did p q lane group (FirstDevice low high) (Device low high) was idle some closed.is_open (ap (λ (g : GateState). g.opened) (gate ∙ closed.gate)) gate_notes
           (ap (λ (m : MsState). m.notes) metaslab ∙ closed.notes) (subst (StaysButNotes p.metaslab) (sym metaslab) closed.stays)
-          (base ∙ closed.base) (units ∙ closed.units) first once;
+          (base ∙ closed.base) first (λ _ _ left. (once, left));
       first = rw idle first;
       intervals = (refl, (once, refl));
       synced = ap settled_of metaslab ∙ (ap (λ (x : Origin). settled_group x mid.metaslab.notes) (ap origin_of closed.stays)
           ∙ (ap (settled_group (origin_of p.metaslab)) closed.notes ∙ settled_group-push (origin_of p.metaslab) p.metaslab.notes (record { lane = lane; act = Collect group })));
     })
+sync_did p mid q lane group batch low high answer was idle some closed (IsCommitted.damaged id damage is steady gate metaslab first base) =
+    let gate_notes : q.gate.notes ≡ p.gate.notes ++ Closed lane group ∷ [] = ap (λ (g : GateState). g.notes) (gate ∙ closed.gate) in
+    rw is (record {
+      acted = unsettled_did p q lane group (FirstDamaged id damage) (Damaged id damage) was idle some closed.is_open (ap (λ (g : GateState). g.opened) (gate ∙ closed.gate)) gate_notes
+          (ap (λ (m : MsState). m.notes) metaslab ∙ closed.notes) (subst (StaysButNotes p.metaslab) (sym metaslab) closed.stays)
+          (base ∙ closed.base) first (λ _ _ left. left);
+      first = rw idle first;
+      intervals = steady;
+      synced = ap settled_of metaslab ∙ (ap (λ (x : Origin). settled_group x mid.metaslab.notes) (ap origin_of closed.stays)
+          ∙ (ap (settled_group (origin_of p.metaslab)) closed.notes ∙ settled_group-push (origin_of p.metaslab) p.metaslab.notes (record { lane = lane; act = Collect group })));
+    })
 
--- and what the device holds then, where no fault is kept
-pub kept_after : (p mid q : Pool) (lane : ℕ) (group : Group) (low high : ℕ) (answer : Answer) (old new : DiskState)
-    → IsPool p → p.first ≡ None → IsPool q → IsClosed p mid lane group → IsCommitted mid q lane group low high answer → q.first ≡ None → Tells new
-    → (answer ≡ Done group → (c : List ℕ) → new.may_leave c → IsStored c group.0 q.record.units q.record.bytes.items)
-    → IsKept (origin_of p.metaslab) p.metaslab.notes q.metaslab.notes old new
-kept_after p mid q lane group low high answer old new was idle now closed (IsCommitted.settled is gate notes stays first base units bits later) none tells stored =
+-- the group that was closed is due
+
+collect_gained : (t : ℕ) (h : List Noted) (lane : ℕ) (group : Group) (u : ℕ) → is_gained t (h ++ record { lane = lane; act = Collect group } ∷ []) u ≡ is_gained t h u
+collect_gained t h lane group u = is_gained-push t h (record { lane = lane; act = Collect group }) u
+
+collect_given : (t : ℕ) (h : List Noted) (lane : ℕ) (group : Group) (u : ℕ) → is_given t (h ++ record { lane = lane; act = Collect group } ∷ []) u ≡ is_given t h u
+collect_given t h lane group u = is_given-push t h (record { lane = lane; act = Collect group }) u ∙ or_false (is_given t h u)
+
+pub due_of : (p q : Pool) (lane : ℕ) (group : Group) (batch : Batch) (layout : Layout) (table : Table) → IsPool p → p.first ≡ None → IsClosed p q lane group batch → IsStoreOf p layout table
+    → IsDue q layout table group batch
+due_of p q lane group batch layout table was idle closed store =
+    let facts = closed_facts p q lane group batch was idle closed in
     let o : Origin = origin_of p.metaslab in
-    let all : StaysButNotes p.metaslab q.metaslab = stays_both p.metaslab mid.metaslab q.metaslab closed.stays stays in
-    let origin : origin_of q.metaslab ≡ o = ap origin_of all in
+    let origin : origin_of q.metaslab ≡ o = ap origin_of closed.stays in
+    let units : q.metaslab.units ≡ p.metaslab.units = ap (λ (m : MsState). m.units) closed.stays in
+    let leaves : LeavesSettled p q = collected_leaves p q lane group was closed.is_open closed.notes in
     let is_open : group.0 ≡ open_group p.metaslab.opened p.gate.notes = rw (← was.opened) closed.is_open in
-    let next : group.0 ≡ settled_group o p.metaslab.notes + 1 = omega (arith, is_open, was.sound.next, was.sound.level idle) in
-    let settled : settled_group o q.metaslab.notes ≡ group.0 =
-    ap (settled_group o) notes ∙ settled_group-push o mid.metaslab.notes (record { lane = lane; act = Settle group }) in
-    let settled_q : settled_of q.metaslab ≡ group.0 = ap (λ (x : Origin). settled_group x q.metaslab.notes) origin ∙ settled in
+    let legal : IsLegal o q.metaslab.notes = subst (IsLegal o) (sym closed.notes) (legal_push o p.metaslab.notes (record { lane = lane; act = Collect group }) was.sound.legal (is_open ∙ was.sound.next)) in
+    let gained : (u : ℕ) → is_gained group.0 p.metaslab.notes u ≡ is_gained group.0 q.metaslab.notes u =
+    λ u. sym (ap (λ (l : List Noted). is_gained group.0 l u) closed.notes ∙ collect_gained group.0 p.metaslab.notes lane group u) in
+    let given : (u : ℕ) → is_given group.0 p.metaslab.notes u ≡ is_given group.0 q.metaslab.notes u =
+    λ u. sym (ap (λ (l : List Noted). is_given group.0 l u) closed.notes ∙ collect_given group.0 p.metaslab.notes lane group u) in
     record {
-      tells = tells;
-      rises = omega (arith, next, settled);
-      same = λ e. absurd (omega (arith, e, next, settled));
-      unchanged = λ e. absurd (omega (arith, e, next, settled));
-      held_same = λ e. absurd (omega (arith, e, next, settled));
-      stored = λ lt c leaves. subst (λ (x : Origin). HoldsGroup c x q.metaslab.notes) origin (stored_holds q group c now none settled_q (stored is c leaves));
+      store = store_leaves p q layout table was store closed.stays leaves;
+      legal = subst (λ (x : Origin). IsLegal x q.metaslab.notes) (sym origin) legal;
+      next = facts.next;
+      collected = facts.collected;
+      idle = closed.first ∙ idle;
+      id = closed.id;
+      allocs = subst (λ (n : ℕ). AreMaximalRuns (is_gained group.0 q.metaslab.notes) n batch.allocs) (sym units) (maximal_same (is_gained group.0 p.metaslab.notes) (is_gained group.0 q.metaslab.notes) p.metaslab.units batch.allocs gained closed.allocs);
+      frees = subst (λ (n : ℕ). AreMaximalRuns (is_given group.0 q.metaslab.notes) n batch.frees) (sym units) (maximal_same (is_given group.0 p.metaslab.notes) (is_given group.0 q.metaslab.notes) p.metaslab.units batch.frees given closed.frees);
     }
-kept_after p mid q lane group low high answer old new was idle now closed (IsCommitted.failed is once gate metaslab first base units bits) none tells stored =
-    absurd (never (FirstDevice low high) (sym first ∙ none)) where
-      never : (x : First) → Some x ≡ None → ⊥
-      never x e = cc
+
+-- whatever became of its commit, the journal grew
+pub committed_grows : {E : Type 0} (p q : Pool) (layout : Layout) (table : Table) (lane : ℕ) (group : Group) (batch : Batch) (low high : ℕ) (r : Result Answer E) → IsDue p layout table group batch
+    → IfOk r (IsCommitted p q lane group low high) → OnErr r ((high ≡ low) × (q ≡ p)) → Grows (origin_of p.metaslab) p.metaslab.notes q.metaslab.notes
+committed_grows p q layout table lane group batch low high (Ok answer) due (IsCommitted.settled is gate notes stays first base same) err =
+    subst (Grows (origin_of p.metaslab) p.metaslab.notes) (sym notes) (grows_may (origin_of p.metaslab) p.metaslab.notes lane (Settle group) (due.next, omega (arith, due.collected)))
+committed_grows p q layout table lane group batch low high (Ok answer) due (IsCommitted.failed is once gate metaslab first base) err =
+    subst (Grows (origin_of p.metaslab) p.metaslab.notes) (sym (ap (λ (m : MsState). m.notes) metaslab)) (grows_none (origin_of p.metaslab) p.metaslab.notes)
+committed_grows p q layout table lane group batch low high (Ok answer) due (IsCommitted.damaged id damage is steady gate metaslab first base) err =
+    subst (Grows (origin_of p.metaslab) p.metaslab.notes) (sym (ap (λ (m : MsState). m.notes) metaslab)) (grows_none (origin_of p.metaslab) p.metaslab.notes)
+committed_grows p q layout table lane group batch low high (Err e) due done err =
+    subst (Grows (origin_of p.metaslab) p.metaslab.notes) (sym (ap (λ (x : Pool). x.metaslab.notes) err.1)) (grows_none (origin_of p.metaslab) p.metaslab.notes)
+
+pub unsettled_leaves : (p mid q : Pool) → mid.first ≡ p.first → LeavesSettled p mid → q ≡ mid → (q.first ≡ p.first) × LeavesSettled p q
+unsettled_leaves p mid q first leaves same = rw same (first, leaves)

@@ -1,12 +1,15 @@
 -- The words of the command line, as lists.
-use Rattle.std.proofs.Common.{Option, Some, None, Bor, String, Global, ◌≡◌, ℕ, ◌+◌, ◌-◌, ◌^◌, ◌≤◌, ◌<◌, true, false, List, [], ◌∷◌, ◌++◌, length, take, drop, get_or, refl, sym, ◌∙◌, ap, arith, length-append}
+use Rattle.std.proofs.Common.{Option, Some, None, Bor, String, Global, ◌≡◌, ℕ, ◌+◌, ◌-◌, ◌^◌, ◌≤◌, ◌<◌, true, false, List, [], ◌∷◌, ◌++◌, length, take, drop, get_or, inl, inr, refl, sym, ◌∙◌, ap, subst, arith, length-append}
 use Rattle.std.specs.Prelude.{MatchOption, IfSome, IfNone, codes, decimal, map, string_bytes}
 use Rattle.std.specs.Str.{bytes_eq}
 use Rattle.std.proofs.lemmas.Slice.Eq.{bytes_eq-Decides}
 use Rattle.std.proofs.Math.Seq.{take-append_seam, drop-append_seam}
 use Rattle.std.proofs.lemmas.List.{append_cancel_left, append_cancel_right, take-append-drop}
 use Rattle.std.proofs.lemmas.Fmt.{decimal_injective}
-use Rattle.zms_top.specs.Words.{IsPoolName, spec_text, AsksOf, Asks}
+use Rattle.std.specs.Prelude.{◌⊎◌, IsTrue}
+use Rattle.std.specs.List.{list_all}
+use Rattle.meta_store.specs.declared.causes.At.TheVariants.{Newest, Group as AtGroup}
+use Rattle.zms_top.specs.Words.{is_pool_byte, IsPoolName, spec_text, group_word, ArePoolAndGroup, AsksOf, Asks}
 use Rattle.zms_top.specs.declared.words.Asked.{Asked}
 use Rattle.zms_top.specs.declared.words.Asked.TheVariants.{Create, Run}
 
@@ -38,25 +41,55 @@ pub spec_not : (spec behind front : List ℕ) (n : ℕ) → codes "normal:12:" +
 spec_not spec behind front n one two three =
     ap (λ l. codes "normal:12:" ++ (l ++ codes ":1")) three ∙ ap (λ l. codes "normal:12:" ++ l) two ∙ one
 
-pub asks_run : (words : List (List ℕ)) (pool : List ℕ) → IsPoolName pool → words ≡ codes "run" ∷ (pool ∷ []) → Asks words Run
+pub asks_run : (words : List (List ℕ)) (pool : List ℕ) → IsPoolName pool → words ≡ codes "run" ∷ (pool ∷ []) → Asks words (Run Newest)
 asks_run words pool name is = record { pool = pool; name = name; are = is }
 
-pub asks_create : (words : List (List ℕ)) (pool : List ℕ) (units : ℕ) → IsPoolName pool → words ≡ codes "create" ∷ (pool ∷ (spec_text units ∷ [])) → 64 ≤ units → units ≤ 131072
-    → Asks words (Create units)
-asks_create words pool units name is low high = record { pool = pool; name = name; are = (is, (low, high)) }
+-- an option is no name
+pub option_no_name : (group : ℕ) (name : List ℕ) → IsPoolName name → name ≡ group_word group → ⊥
+option_no_name group name is same =
+    let bytes : false ≡ true = subst (λ n. IsTrue (list_all is_pool_byte n)) same is.bytes in
+    cc
+
+-- an option tells its group
+pub group_word_once : (m n : ℕ) → m < 10 ^ 19 → n < 10 ^ 19 → group_word m ≡ group_word n → m ≡ n
+group_word_once m n fits fits' e = decimal_injective m n (omega (arith, fits)) (omega (arith, fits')) (append_cancel_left (codes "--group=") _ _ e)
+
+-- two words tell one group
+pub one_group : (one two p q : List ℕ) (m n : ℕ) → IsPoolName p → IsPoolName q → ArePoolAndGroup one two p m → ArePoolAndGroup one two q n → m ≡ n
+one_group one two p q m n np nq first second = by first.either second.either where
+  by : ((one ≡ p) × (two ≡ group_word m)) ⊎ ((one ≡ group_word m) × (two ≡ p)) → ((one ≡ q) × (two ≡ group_word n)) ⊎ ((one ≡ group_word n) × (two ≡ q)) → m ≡ n
+  by (inl a) (inl b) = group_word_once m n first.short second.short (sym a.1 ∙ b.1)
+  by (inr a) (inr b) = group_word_once m n first.short second.short (sym a.0 ∙ b.0)
+  by (inl a) (inr b) = absurd (option_no_name n p np (sym a.0 ∙ b.0))
+  by (inr a) (inl b) = absurd (option_no_name m q nq (sym b.0 ∙ a.0))
 
 -- words ask for one thing
-asks_of_once : (words : List (List ℕ)) (p q : List ℕ) (x y : Asked) → AsksOf p words x → AsksOf q words y → x ≡ y
-asks_of_once words p q Run Run one two = refl
-asks_of_once words p q Run (Create n) one two = let both : codes "run" ∷ (p ∷ []) ≡ codes "create" ∷ (q ∷ (spec_text n ∷ [])) = sym one ∙ two.0 in cc
-asks_of_once words p q (Create m) Run one two = let both : codes "create" ∷ (p ∷ (spec_text m ∷ [])) ≡ codes "run" ∷ (q ∷ []) = sym one.0 ∙ two in cc
-asks_of_once words p q (Create m) (Create n) one two =
+asks_of_once : (words : List (List ℕ)) (p q : List ℕ) (x y : Asked) → IsPoolName p → IsPoolName q → AsksOf p words x → AsksOf q words y → x ≡ y
+asks_of_once words p q (Run Newest) (Run Newest) np nq one two = refl
+asks_of_once words p q (Run Newest) (Run (AtGroup n)) np nq one two = let both : codes "run" ∷ (p ∷ []) ≡ codes "run" ∷ (two.one ∷ (two.two ∷ [])) = sym one ∙ two.words_are in cc
+asks_of_once words p q (Run (AtGroup m)) (Run Newest) np nq one two = let both : codes "run" ∷ (one.one ∷ (one.two ∷ [])) ≡ codes "run" ∷ (q ∷ []) = sym one.words_are ∙ two in cc
+asks_of_once words p q (Run (AtGroup m)) (Run (AtGroup n)) np nq one two =
+    let both : codes "run" ∷ (one.one ∷ (one.two ∷ [])) ≡ codes "run" ∷ (two.one ∷ (two.two ∷ [])) = sym one.words_are ∙ two.words_are in
+    let firsts : two.one ≡ one.one = cc in
+    let seconds : two.two ≡ one.two = cc in
+    let same : m.0 ≡ n.0 = one_group one.one one.two p q m.0 n.0 np nq one.are (subst (λ t. ArePoolAndGroup one.one t q n.0) seconds (subst (λ t. ArePoolAndGroup t two.two q n.0) firsts two.are)) in
+    ap (λ (g : ℕ). Run (AtGroup (record { 0 = g }))) same
+asks_of_once words p q (Run Newest) (Create n) np nq one two = let both : codes "run" ∷ (p ∷ []) ≡ codes "create" ∷ (q ∷ (spec_text n ∷ [])) = sym one ∙ two.0 in cc
+asks_of_once words p q (Run (AtGroup m)) (Create n) np nq one two = let both : codes "run" ∷ (one.one ∷ (one.two ∷ [])) ≡ codes "create" ∷ (q ∷ (spec_text n ∷ [])) = sym one.words_are ∙ two.0 in cc
+asks_of_once words p q (Create m) (Run Newest) np nq one two = let both : codes "create" ∷ (p ∷ (spec_text m ∷ [])) ≡ codes "run" ∷ (q ∷ []) = sym one.0 ∙ two in cc
+asks_of_once words p q (Create m) (Run (AtGroup n)) np nq one two = let both : codes "create" ∷ (p ∷ (spec_text m ∷ [])) ≡ codes "run" ∷ (two.one ∷ (two.two ∷ [])) = sym one.0 ∙ two.words_are in cc
+asks_of_once words p q (Create m) (Create n) np nq one two =
     let both : codes "create" ∷ (p ∷ (spec_text m ∷ [])) ≡ codes "create" ∷ (q ∷ (spec_text n ∷ [])) = sym one.0 ∙ two.0 in
     let texts : spec_text m ≡ spec_text n = cc in
     ap Create (spec_once m n (omega (arith, one.1.1)) (omega (arith, two.1.1)) texts)
 
 pub asks_once : (words : List (List ℕ)) (x y : Asked) → Asks words x → Asks words y → x ≡ y
-asks_once words x y one two = asks_of_once words one.pool two.pool x y one.are two.are
+asks_once words x y one two = asks_of_once words one.pool two.pool x y one.name two.name one.are two.are
+
+-- an answer that is asked for, or none where nothing is, is the only one
+pub only_answer : (words : List (List ℕ)) (r : Option Asked) → IfSome r (λ asked. Asks words asked) → IfNone r ((asked : Asked) → Asks words asked → ⊥) → (asked : Asked) → Asks words asked → r ≡ Some asked
+only_answer words None some none asked asks = absurd (none asked asks)
+only_answer words (Some x) some none asked asks = ap Some (asks_once words x asked some asks)
 
 -- what stands behind a text, and before one
 

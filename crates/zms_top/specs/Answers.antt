@@ -1,15 +1,15 @@
 -- A command with its reply.
-use Rattle.std.specs.Prelude.{ℕ, if◌then◌else◌, Option, Some, None, List, [], ◌∷◌}
+use Rattle.std.specs.Prelude.{ℕ, Bool, true, false, if◌then◌else◌, Option, Some, None, List, [], ◌∷◌}
 use Rattle.std.specs.List.{fold}
 use Rattle.std.specs.Str.{bytes_eq}
 use Rattle.zms_units.specs.declared.blocks.Dva.{Dva}
 use Rattle.zms_units.specs.declared.faults.First.{First}
-use Rattle.zms_units.specs.declared.faults.First.TheVariants.{Device as FirstDevice}
+use Rattle.zms_units.specs.declared.faults.First.TheVariants.{Device as FirstDevice, Damaged as FirstDamaged}
 use Rattle.cmd_text.specs.declared.script.Command.{Command}
 use Rattle.cmd_text.specs.declared.script.What.{What}
 use Rattle.cmd_text.specs.declared.script.What.TheVariants.{Alloc, Sync}
 use Rattle.zms_top.specs.declared.replies.Answer.{Answer}
-use Rattle.zms_top.specs.declared.replies.Answer.TheVariants.{Granted, NoSpace, BadSize, Done, NoName, NotLive, Device}
+use Rattle.zms_top.specs.declared.replies.Answer.TheVariants.{Granted, NoSpace, BadSize, Done, NoName, NotLive, Device, Damaged}
 use Rattle.zms_top.specs.declared.replies.Reply.{Reply}
 
 pub record Replied : Type 0 where
@@ -21,14 +21,21 @@ abbrev pub paired : List Command → List Reply → List Replied
 paired (c ∷ cs) (r ∷ rs) = record { command = c; reply = r } ∷ paired cs rs
 paired _ _ = []
 
+-- the first fault that is kept, once one more answer is there: a failed call of the device, or damage
 abbrev pub first_with : Option First → Answer → Option First
 first_with (Some first) _ = Some first
 first_with None (Device before after) = Some (FirstDevice before after)
+first_with None (Damaged id damage) = Some (FirstDamaged id damage)
 first_with None _ = None
 
 -- the first fault that earlier replies name
 abbrev pub first_fault : List Replied → Option First
 first_fault done = fold (λ so_far r. first_with so_far r.reply.answer) None done
+
+-- is what is kept a failed call of the device?
+abbrev pub is_failure : Option First → Bool
+is_failure (Some (FirstDevice before after)) = true
+is_failure _ = false
 
 -- the last group that a sync made lasting, once one more command has its answer
 abbrev pub synced_after : ℕ → What → Answer → ℕ

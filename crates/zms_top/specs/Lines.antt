@@ -26,7 +26,7 @@ use Rattle.zms_top.specs.Answers.{Replied, first_fault, copies_named}
 use Rattle.cmd_text.specs.declared.script.What.{What}
 use Rattle.cmd_text.specs.declared.script.What.TheVariants.{Alloc, Free, Sync}
 use Rattle.zms_top.specs.declared.replies.Answer.{Answer}
-use Rattle.zms_top.specs.declared.replies.Answer.TheVariants.{Granted, NoSpace, BadSize, Done, NoName, NotLive, Device, Suspended}
+use Rattle.zms_top.specs.declared.replies.Answer.TheVariants.{Granted, NoSpace, BadSize, Done, NoName, NotLive, Device, Damaged, Suspended}
 
 -- what the lines need of the pool: the group at which it was opened, and its one vdev: the shift, the units of each of
 -- its metaslabs, how many metaslabs there are, and which units of each the opened group held
@@ -185,19 +185,20 @@ pub record IsSynced (pool : Shape) (lane : ℕ) (group : Group) (es kept : List 
   pub gate_settled : Contains after (Settled group)
   pub whole : es ≡ at_gate (noting before (Closed lane group)) ∷ (seen ++ (at_gate (look after) ∷ []))
 
--- `device`: the lane closed the open group, behind that the keeper collected it at each metaslab, and the device failed
-pub record IsFailed (pool : Shape) (lane low high : ℕ) (es kept : List Event) : Type 0 where
+-- the lane closed the open group, behind that the keeper collected it at each metaslab, and it was settled nowhere
+pub record IsUnsettled (pool : Shape) (lane : ℕ) (es kept : List Event) : Type 0 where
   pub before : List GateNote
   pub group : Group
   pub collected : Collects lane group pool.metaslabs kept
   pub is_open : group.0 ≡ open_group pool.opened before
-  pub once : high ≡ one_more low
   pub whole : es ≡ at_gate (noting before (Closed lane group)) ∷ []
 
--- a sync goes on only while no fault is kept; from then on each answers the first one
+-- a sync goes on only while no fault is kept: it is done, or the device failed once, or what it read was damaged; from then
+-- on each answers the first fault
 abbrev pub SyncLine : Shape → ℕ → Option First → Answer → List Event → List Event → Type 0
 SyncLine pool lane None (Done group) es kept = IsSynced pool lane group es kept
-SyncLine pool lane None (Device low high) es kept = IsFailed pool lane low high es kept
+SyncLine pool lane None (Device low high) es kept = (high ≡ one_more low) × IsUnsettled pool lane es kept
+SyncLine pool lane None (Damaged id damage) es kept = IsUnsettled pool lane es kept
 SyncLine pool lane (Some first) (Suspended told) es kept = (told ≡ first) × ((es ≡ []) × (kept ≡ []))
 SyncLine pool lane _ _ es kept = ⊥
 

@@ -1,5 +1,5 @@
 -- What a run keeps true between two commands.
-use Rattle.std.specs.Prelude.{◌≡◌, ◌≢◌, ◌⊎◌, ℕ, ◌+◌, ◌*◌, ◌<◌, ◌≤◌, Bool, true, false, Option, None, List, [], ◌∷◌, ◌++◌}
+use Rattle.std.specs.Prelude.{◌≡◌, ◌≢◌, ◌⊎◌, ℕ, ◌+◌, ◌≤◌, true, false, Option, None, List, [], ◌∷◌, ◌++◌}
 use Rattle.std.specs.List.{All}
 use Rattle.zms_units.specs.declared.faults.First.{First}
 use Rattle.zms_units.specs.declared.places.MsId.{MsId}
@@ -13,11 +13,7 @@ use Rattle.ms_model.specs.Events.{Event, gate_steps, metaslab_steps}
 use Rattle.ms_model.specs.declared.notes.Act.TheVariants.{Load, Unload}
 use Rattle.ms_model.specs.declared.notes.Noted.{Noted}
 use Rattle.ms_model.specs.declared.notes.GateNote.{GateNote}
-use Rattle.zms_dev.specs.Bytes.{Outside, Torn}
-use Rattle.zms_dev.specs.Disk.{DiskState, Tells, bytes_of}
-use Rattle.zms_dev.specs.Runs.{Before}
 use Rattle.zms_top.specs.Lines.{Shape}
-use Rattle.zms_top.specs.Record.{IsRecord, is_set, bit_bytes, record_len}
 
 -- the name of a pool's one metaslab
 abbrev pub first_id : MsId
@@ -27,16 +23,20 @@ first_id = record { vdev = 0; index = 0 }
 abbrev pub shape_of : Origin → Shape
 shape_of o = record { opened = o.opened; ashift = o.ashift; units = o.units; metaslabs = 1; bases = λ _. o.base }
 
--- the metaslab's journal is legal, the gate's says the same of groups, and while no fault is kept the bits in memory are
--- what the last group holds
-pub record IsSound (o : Origin) (h : List Noted) (g : List GateNote) (set : ℕ → Bool) (first : Option First) : Type 0 where
+-- the metaslab's journal is legal, the gate's says the same of groups, and while no fault is kept each group that was
+-- collected is settled
+pub record IsSound (o : Origin) (h : List Noted) (g : List GateNote) (first : Option First) : Type 0 where
   pub legal : IsLegal o h
   pub kept : All (λ note. note.act ≢ Unload) h
   pub synced : synced_group o.opened g ≡ settled_group o h
   pub next : open_group o.opened g ≡ collected_group o h + 1
   pub behind : collected_group o h ≤ settled_group o h + 1
   pub level : first ≡ None → collected_group o h ≡ settled_group o h
-  pub bits : first ≡ None → (u : ℕ) → u < o.units → set u ≡ held o h (settled_group o h) u
+
+-- the journal grew: each group that was collected holds what it held
+pub record Grows (o : Origin) (h j : List Noted) : Type 0 where
+  pub collected : collected_group o h ≤ collected_group o j
+  pub holds : (t u : ℕ) → t ≤ collected_group o h → held o j t u ≡ held o h t u
 
 -- from h to j, and from g to k, no lane but this one noted anything
 pub record OthersRest (lane : ℕ) (h j : List Noted) (g k : List GateNote) : Type 0 where
@@ -59,28 +59,3 @@ pub data Loads (lane : ℕ) (h : List Noted) : List Noted → Type 0 where
 -- it was brought there, or nothing was noted
 abbrev pub MayLoad : ℕ → List Noted → List Noted → Type 0
 MayLoad lane h j = (j ≡ h) ⊎ Loads lane h j
-
--- an image has the record of the last settled group, with exactly the units that this group holds, and zeros behind them
-pub record HoldsGroup (image : List ℕ) (o : Origin) (h : List Noted) : Type 0 where
-  pub is : IsRecord image (settled_group o h) o.units
-  pub bits : (u : ℕ) → u < o.units → is_set image u ≡ held o h (settled_group o h) u
-  pub padding : (u : ℕ) → o.units ≤ u → u < 8 * bit_bytes o.units → is_set image u ≡ false
-
--- the device is as a run found it while nothing was committed; and from the first commit on every image that a stop may
--- leave holds the last settled group
-pub record IsRecorded (start now : DiskState) (o : Origin) (h : List Noted) : Type 0 where
-  pub tells : Tells now
-  pub untouched : settled_group o h ≡ o.opened → bytes_of now ≡ bytes_of start
-  pub unchanged : settled_group o h ≡ o.opened → (c : List ℕ) → now.may_leave c → start.may_leave c
-  pub stored : o.opened < settled_group o h → (c : List ℕ) → now.may_leave c → HoldsGroup c o h
-
--- the places that no commit touches
-abbrev pub Spared : Origin → ℕ → Type 0
-Spared o = Outside 0 (record_len o.units)
-
--- a commit failed, and the device was left alone since: each image that a stop may leave is, but for that commit's places, one
--- that the run found while nothing was committed, and else one of the last settled group
-pub record IsHalfRecorded (start now : DiskState) (o : Origin) (h : List Noted) : Type 0 where
-  pub tells : Tells now
-  pub unchanged : settled_group o h ≡ o.opened → (c : List ℕ) → now.may_leave c → Before start (Spared o) c
-  pub stored : o.opened < settled_group o h → (c : List ℕ) → now.may_leave c → (d : List ℕ) × HoldsGroup d o h × Torn (Spared o) d c

@@ -3,6 +3,7 @@ use Rattle.std.specs.Prelude.{ℕ, ◌*◌, ◌^◌, ◌<◌, Bool, true, false,
 use Rattle.std.specs.List.{flat_map, sum_by, list_any}
 use Rattle.zms_units.specs.declared.faults.First.{First}
 use Rattle.zms_units.specs.declared.faults.First.TheVariants.{Device as FirstDevice, Damaged as FirstDamaged}
+use Rattle.zms_units.specs.declared.places.MsId.{MsId}
 use Rattle.zms_units.specs.declared.places.Class.{Class}
 use Rattle.zms_units.specs.declared.places.Class.TheVariants.{Normal, Log, Special, Dedup}
 use Rattle.zms_units.specs.Classes.{class_word}
@@ -12,11 +13,15 @@ use Rattle.cmd_text.specs.declared.script.What.{What}
 use Rattle.cmd_text.specs.declared.script.What.TheVariants.{Alloc, Free, FreeSeg, Sync, Load, Unload, Init, Trim, AutoTrim}
 use Rattle.zms_top.specs.declared.tally.Tally.{Tally}
 use Rattle.zms_top.specs.declared.replies.Answer.{Answer}
-use Rattle.zms_top.specs.declared.replies.Answer.TheVariants.{Granted, NoSpace, BadSize, Done, NoName, NotLive, Device, Suspended}
+use Rattle.zms_top.specs.declared.replies.Answer.TheVariants.{Granted, NoSpace, BadSize, Done, NoName, NotLive, Device, Damaged, Suspended}
+
+-- `V I`
+abbrev pub id_text : MsId → List ℕ
+id_text id = decimal id.vdev ++ (32 ∷ decimal id.index)
 
 abbrev pub first_text : First → List ℕ
 first_text (FirstDevice before after) = decimal before ++ (32 ∷ decimal after)
-first_text (FirstDamaged id _) = decimal id.vdev ++ (32 ∷ decimal id.index)
+first_text (FirstDamaged id _) = id_text id
 
 abbrev pub answer_text : Answer → List ℕ
 answer_text (Granted group copies) = codes "granted " ++ (decimal group.0 ++ flat_map copy_text copies)
@@ -26,6 +31,7 @@ answer_text (Done group) = codes "done " ++ decimal group.0
 answer_text NoName = codes "noname"
 answer_text (NotLive vdev offset) = codes "notlive " ++ (decimal vdev ++ (58 ∷ decimal offset))
 answer_text (Device before after) = codes "device " ++ (decimal before ++ (32 ∷ decimal after))
+answer_text (Damaged id _) = codes "damaged " ++ id_text id
 answer_text (Suspended first) = codes "suspended " ++ first_text first
 
 -- the command word and its first argument

@@ -1,8 +1,9 @@
 -- The words of the command line. Each form is what its words are; reading them is the inverse.
-use Rattle.std.specs.Prelude.{◌≡◌, ℕ, ◌<◌, ◌≤◌, Bool, ◌==◌, ◌||◌, List, [], ◌∷◌, ◌++◌, length, IsTrue, codes, decimal, slice_get, Some}
+use Rattle.std.specs.Prelude.{◌≡◌, ℕ, ◌<◌, ◌≤◌, Bool, ◌==◌, ◌||◌, ◌⊎◌, ◌^◌, List, [], ◌∷◌, ◌++◌, length, IsTrue, codes, decimal}
 use Rattle.zms_units.specs.Limits.{IsUnitCount}
 use Rattle.std.specs.List.{list_all}
 use Rattle.cmd_text.specs.Words.{is_lowercase, is_digit}
+use Rattle.meta_store.specs.declared.causes.At.TheVariants.{Newest, Group as AtGroup}
 use Rattle.zms_top.specs.declared.words.Asked.{Asked}
 use Rattle.zms_top.specs.declared.words.Asked.TheVariants.{Create, Run}
 
@@ -20,10 +21,27 @@ pub record IsPoolName (name : List ℕ) : Type 0 where
 abbrev pub spec_text : ℕ → List ℕ
 spec_text units = codes "normal:12:" ++ (decimal units ++ codes ":1")
 
+-- the option that names a group
+abbrev pub group_word : ℕ → List ℕ
+group_word group = codes "--group=" ++ decimal group
+
+-- of two words one is this name, and the other names this group, in a number of at most 19 digits
+pub record ArePoolAndGroup (one two name : List ℕ) (group : ℕ) : Type 0 where
+  pub short : group < 10 ^ 19
+  pub either : ((one ≡ name) × (two ≡ group_word group)) ⊎ ((one ≡ group_word group) × (two ≡ name))
+
+-- a run of this name at this group: the option stands anywhere behind the command
+pub record AsksGroup (name : List ℕ) (words : List (List ℕ)) (group : ℕ) : Type 0 where
+  pub one : List ℕ
+  pub two : List ℕ
+  pub words_are : words ≡ codes "run" ∷ one ∷ two ∷ []
+  pub are : ArePoolAndGroup one two name group
+
 -- what the words ask for of the pool of a name
 abbrev pub AsksOf : List ℕ → List (List ℕ) → Asked → Type 0
 AsksOf pool words (Create units) = (words ≡ codes "create" ∷ pool ∷ spec_text units ∷ []) × (IsUnitCount units)
-AsksOf pool words Run = words ≡ codes "run" ∷ pool ∷ []
+AsksOf pool words (Run Newest) = words ≡ codes "run" ∷ pool ∷ []
+AsksOf pool words (Run (AtGroup group)) = AsksGroup pool words group.0
 
 -- the words ask for this
 pub record Asks (words : List (List ℕ)) (asked : Asked) : Type 0 where
@@ -35,6 +53,6 @@ pub record Asks (words : List (List ℕ)) (asked : Asked) : Type 0 where
 abbrev pub AsksNothing : List (List ℕ) → Type 0
 AsksNothing words = (asked : Asked) → Asks words asked → ⊥
 
--- the second of the words is this
-abbrev pub IsSecond : List (List ℕ) → List ℕ → Type 0
-IsSecond words name = slice_get words 1 ≡ Some name
+-- the words are of the pool of this name
+abbrev pub AreOfPool : List (List ℕ) → List ℕ → Type 0
+AreOfPool words name = (asked : Asked) × AsksOf name words asked

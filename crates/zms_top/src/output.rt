@@ -6,7 +6,7 @@ ghost use Rattle.zms_dev.specs.Prints.{Prints, HandsOn};
 ghost use Rattle.trace_text.specs.Pieces.{text_if};
 ghost use Rattle.zms_units.specs.Classes.{class_word};
 ghost use Rattle.zms_top.specs.Answers.{paired};
-ghost use Rattle.zms_top.specs.Texts.{same_class, is_asked, if_asked, live_bytes, deferred_bytes, vacant_bytes, counts_text, metaslab_text, class_line, totals_text, run_text, created_text, FitInBytes, first_text, answer_text, head_text, reply_text};
+ghost use Rattle.zms_top.specs.Texts.{same_class, is_asked, if_asked, live_bytes, deferred_bytes, vacant_bytes, counts_text, metaslab_text, class_line, totals_text, run_text, created_text, FitInBytes, id_text, first_text, answer_text, head_text, reply_text};
 
 use crate::tally::Tally;
 use crate::{Answer, Reply};
@@ -14,7 +14,24 @@ use cmd_text::{Command, What};
 use trace_text::Piece::{Number, Text};
 use trace_text::{Each, Printed};
 use zms_dev::{Failed, Sink};
-use zms_units::{Class, First, Group, bytes_of};
+use zms_units::{Class, First, Group, MsId, bytes_of};
+
+/// A metaslab's vdev and index.
+#[derive(Clone, Copy)]
+struct Place(MsId);
+
+impl Printed for Place {
+    ghost text = { λ place. id_text place.0 };
+
+    fn write<S: Sink>(&self, out: &mut S) -> Result<(), Failed> {
+        (
+            Number(u64::from(self.0.vdev)),
+            Text(b" "),
+            Number(u64::from(self.0.index)),
+        )
+            .write(out)
+    }
+}
 
 /// The first fault or damage, as a suspended pool tells it.
 #[derive(Clone, Copy)]
@@ -28,12 +45,7 @@ impl Printed for Kept {
             First::Device { before, after } => {
                 (Number(before), Text(b" "), Number(after)).write(out)
             }
-            First::Damaged { id, .. } => (
-                Number(u64::from(id.vdev)),
-                Text(b" "),
-                Number(u64::from(id.index)),
-            )
-                .write(out),
+            First::Damaged { id, .. } => Place(id).write(out),
         }
     }
 }
@@ -64,6 +76,7 @@ impl Printed for Answer {
                 Number(*after),
             )
                 .write(out),
+            Answer::Damaged { id, .. } => (Text(b"damaged "), Place(*id)).write(out),
             Answer::Suspended { first } => (Text(b"suspended "), Kept(*first)).write(out),
         }
     }

@@ -1,7 +1,6 @@
-//! A pool as a run keeps it: one metaslab, the gate, and the record that is committed to the device.
+//! A pool as a run keeps it beside its store: one metaslab and the gate.
 
-use crate::first_record::FirstRecord;
-use ms_core::{Metaslab, RunBuf};
+use ms_core::Metaslab;
 use seg_trees::PlainTrees;
 use txg_gate::Gate;
 use zms_units::{First, MsId, Seg};
@@ -17,10 +16,8 @@ pub(crate) const FIRST_METASLAB: MsId = MsId { vdev: 0, index: 0 };
 pub(crate) struct Pool {
     pub(crate) metaslab: Metaslab<PlainTrees>,
     pub(crate) gate: Gate,
-    pub(crate) record: FirstRecord,
     // What the opened group holds, from which the metaslab is loaded.
     pub(crate) base: Vec<Seg>,
-    pub(crate) buf: RunBuf,
-    // The first fault of the device, after which it is written no more.
+    // The first fault of the device or damage, after which it is written no more.
     pub(crate) first: Option<First>,
 }

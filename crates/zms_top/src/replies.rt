@@ -1,6 +1,6 @@
 //! What the lanes answer.
 
-use zms_units::{Copies, First, Group};
+use zms_units::{Copies, Damage, First, Group, MsId};
 
 /// The answer to one command.
 #[derive(Debug, Drop)]
@@ -20,6 +20,8 @@ pub enum Answer {
     NotLive { vdev: u8, offset: u64 },
     /// A call of the pool device failed: its count of faults before and after.
     Device { before: u64, after: u64 },
+    /// The words of a metaslab that a sync read again on the pool device are damaged.
+    Damaged { id: MsId, damage: Damage },
     /// The pool device isn't written any more, since this happened.
     Suspended { first: First },
 }

@@ -6,16 +6,17 @@ ghost use Rattle.ms_model.specs.Counts.{live_units, deferred_units, vacant_units
 ghost use Rattle.ms_core.specs.State.{origin_of};
 ghost use Rattle.zms_top.specs.Answers.{paired};
 ghost use Rattle.zms_dev.specs.Prints.{HandsOn};
-ghost use Rattle.zms_top.specs.Ends.{any_device, is_device as names_device, end_status};
+ghost use Rattle.zms_top.specs.Ends.{any_device, is_device as names_device, damage_in, first_damage, end_status};
 ghost use Rattle.zms_top.specs.Sound.{first_id};
 ghost use Rattle.zms_top.specs.Reports.{HandsOver, IsTally, IsPrinted};
 
 use crate::output::write_run;
 use crate::pool::{ASHIFT, FIRST_METASLAB, Pool};
-use crate::status::{RunLists, Status};
+use crate::status::{PoolCause, RunLists, Status};
 use crate::tally::Tally;
 use crate::{Answer, Reply};
 use cmd_text::Command;
+use meta_store::OpenCause;
 use ms_model::{DeviceNote, Journals, MsJournal};
 use std::alloc::{AllocError, Global};
 use trace_text::write_metaslab_trace;
@@ -109,6 +110,31 @@ fn has_device(replies: &[Reply]) -> bool
     replies.iter().any(|reply| is_device(&reply.answer))
 }
 
+/// The damage that an answer names.
+fn damage_of(answer: &Answer) -> Option<OpenCause>
+    ensures { result ≡ damage_in answer.now }
+{
+    match answer {
+        Answer::Damaged { id, damage } => Some(OpenCause::MapDamaged {
+            id: *id,
+            damage: *damage,
+        }),
+        _ => None,
+    }
+}
+
+/// The damage of the first reply that names any.
+fn find_damage(replies: &[Reply]) -> Option<OpenCause>
+    ensures { result ≡ first_damage replies.now }
+{
+    for reply in replies {
+        if let Some(cause) = damage_of(&reply.answer) {
+            return Some(cause);
+        }
+    }
+    None
+}
+
 /// Prints the replies and totals, and hands them on before anything else is written. Takes no memory.
 pub(crate) fn print<K: Sink>(
     out: &mut K,
@@ -141,10 +167,14 @@ pub(crate) fn trace_journals<T: Sink>(
 
 /// How lanes ended that answered this, and whose texts were written or not.
 pub(crate) fn status_of(replies: &[Reply], written: Result<(), Failed>) -> Status
-    ensures { result ≡ end_status (any_device replies.now) written }
+    ensures { result ≡ end_status (any_device replies.now) (first_damage replies.now) written }
 {
     if has_device(replies) {
         Status::DeviceFault
+    } else if let Some(cause) = find_damage(replies) {
+        Status::NotAPool {
+            cause: PoolCause::Open(cause),
+        }
     } else if written.is_err() {
         Status::WriteFault
     } else {

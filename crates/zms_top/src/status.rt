@@ -4,21 +4,19 @@ ghost use Rattle.std.specs.Prelude.{◌≡◌, Some};
 ghost use Rattle.zms_top.specs.Statuses.{cause_text, status_text, exit_status};
 
 use crate::Reply;
+use crate::refusals::Refusal;
+use meta_store::OpenCause;
 use ms_model::{DeviceNote, GateNote, Journals};
 use std::fmt;
 use zms_units::{Group, Items};
 
-/// Why a pool can't be opened.
-#[derive(Clone, Copy, Debug, PartialEq, Eq)]
-pub enum OpenCause {
-    /// The device has no record of a pool.
-    NoSlot,
-}
-
 /// Why a device is not the pool that was asked for.
 #[derive(Clone, Copy, Debug, PartialEq, Eq)]
 pub enum PoolCause {
+    /// It doesn't open at the group that was asked for, or a sync read damage.
     Open(OpenCause),
+    /// It opens, and isn't one normal vdev of 4096-byte units with one metaslab: lanes run over no other.
+    OtherLayout,
     /// A pool is there already, with this group as its newest.
     AlreadyPool { newest: Group },
 }
@@ -67,7 +65,11 @@ impl fmt::Display for PoolCause {
 
     fn fmt<W: fmt::Write>(&self, f: &mut fmt::Formatter<W>) -> fmt::Result {
         match self {
-            PoolCause::Open(OpenCause::NoSlot) => write!(f, "no slot"),
+            PoolCause::Open(cause) => {
+                let refusal = Refusal(*cause);
+                write!(f, "{refusal}")
+            }
+            PoolCause::OtherLayout => write!(f, "other layout"),
             PoolCause::AlreadyPool { newest } => write!(f, "already a pool, newest {newest}"),
         }
     }

@@ -1,8 +1,7 @@
-//! The command `sync`: the open group is closed and gathered, its record is committed, and it is settled.
+//! The command `sync`: the open group is closed and gathered, committed to the store, and settled.
 
-ghost use Rattle.std.specs.Prelude.{◌≡◌, ℕ, ◌+◌, ◌^◌, ◌<◌, ◌≤◌, Bool, true, false, not, ◌&&◌, ◌||◌, List, [], ◌∷◌, None, IsSome, IfOk, OnOk, OnErr};
+ghost use Rattle.std.specs.Prelude.{◌≡◌, ℕ, ◌+◌, ◌^◌, ◌<◌, ◌≤◌, List, [], ◌∷◌, None, IsSome, IfOk, OnOk, OnErr};
 ghost use Rattle.zms_units.specs.Limits.{IsLane, MAX_COMMANDS};
-ghost use Rattle.zms_units.specs.Segments.{covered, AreSegs};
 ghost use Rattle.ms_model.specs.Gains.{is_gained, is_given};
 ghost use Rattle.ms_model.specs.Gates.{open_group, synced_group};
 ghost use Rattle.zms_units.specs.Runs.{AreMaximalRuns};
@@ -11,25 +10,27 @@ ghost use Rattle.ms_model.specs.declared.notes.Act.TheVariants.{Collect};
 ghost use Rattle.ms_model.specs.declared.notes.GateNote.TheVariants.{Closed};
 ghost use Rattle.ms_core.specs.State.{origin_of, settled_of, collected_of, noted, StaysButNotes};
 ghost use Rattle.txg_gate.specs.Closings.{closings_of};
-ghost use Rattle.zms_dev.specs.Bytes.{Outside};
 ghost use Rattle.zms_dev.specs.Disk.{Tells};
 ghost use Rattle.zms_dev.specs.Runs.{Spares};
-ghost use Rattle.zms_top.specs.Record.{is_set, record_len, IsStored};
+ghost use Rattle.meta_store.specs.Rewinds.{Adds};
 ghost use Rattle.cmd_text.specs.declared.script.What.TheVariants.{Sync};
 ghost use Rattle.zms_top.specs.Answers.{first_with, synced_after};
+ghost use Rattle.zms_top.specs.Ends.{damage_in};
 ghost use Rattle.zms_top.specs.Lines.{SyncLine, AreIntervals};
 ghost use Rattle.zms_top.specs.Sound.{shape_of};
-ghost use Rattle.zms_top.specs.Pools.{Acted, IsPool, IsClosed, IsCommitted, IsKept, LeavesSettled};
+ghost use Rattle.zms_top.specs.Stored.{IsBeside};
+ghost use Rattle.zms_top.specs.Pools.{Acted, IsPool, IsStoreOf, IsRemembered, StaysRemembered, IsClosed, IsDue, IsCommitted, LeavesSettled};
 
 use crate::Answer;
-use crate::first_record::FirstRecord;
-use crate::pool::Pool;
+use crate::pool::{FIRST_METASLAB, Pool};
+use meta_store::{CommitFault, MetaStore};
 use ms_core::{Metaslab, MsFault, RunBuf};
 use seg_trees::PlainTrees;
-use std::alloc::AllocError;
+use std::alloc::{AllocError, Global};
 use txg_gate::Gate;
+use vdev_map::Batch;
 use zms_dev::Disk;
-use zms_units::{First, Group};
+use zms_units::{First, Group, Items};
 
 /// Collects a group that the lane has closed into the buffer, which takes more memory where its runs need it. After an error
 /// nothing is collected.
@@ -65,24 +66,21 @@ pub(crate) fn gather(
     }
 }
 
-/// Marks what a group gained, and then what it gave back.
-fn mark_runs(into: &mut FirstRecord, buf: &RunBuf)
-    requires allocs { AreSegs into.old.units buf.now.allocs.items }
-    requires frees { AreSegs into.old.units buf.now.frees.items }
-    ensures units { into.new.units ≡ into.old.units }
-    ensures bits { (u : ℕ) → is_set into.new.bytes.items u ≡ (not (covered buf.now.frees.items u) && (covered buf.now.allocs.items u || is_set into.old.bytes.items u)) }
-{
-    into.mark(&buf.allocs, true);
-    into.mark(&buf.frees, false);
+/// A group that was closed, and what it changed.
+#[derive(Drop)]
+struct Closing {
+    group: Group,
+    batch: Batch,
 }
 
-/// Closes the open group and gathers what it changed into the record. After an error the group may be closed.
-fn close(pool: &mut Pool, lane: u8) -> Result<Group, AllocError>
+/// Closes the open group and gathers what it changed. After an error the group may be closed.
+fn close(alloc: Global, pool: &mut Pool, lane: u8) -> Result<Closing, AllocError>
     requires pool { IsPool pool.old }
     requires lane { IsLane lane }
     requires no_fault { pool.old.first ≡ None }
     requires few { closings_of lane pool.old.gate.notes < MAX_COMMANDS }
-    ensures closed { IfOk result (λ group. IsClosed pool.old pool.new lane group) }
+    ensures closed { IfOk result (λ closing. IsClosed pool.old pool.new lane closing.group closing.batch) }
+    ensures small { IfOk result (λ closing. closing.group.0 < 2 ^ 50) }
     ensures err { OnErr result ((pool.new.first ≡ pool.old.first) × LeavesSettled pool.old pool.new) }
     // Whatever is answered.
     ensures stays { StaysButNotes pool.old.metaslab pool.new.metaslab }
@@ -90,61 +88,98 @@ fn close(pool: &mut Pool, lane: u8) -> Result<Group, AllocError>
 {
     pool.gate.ready()?;
     pool.metaslab.ready()?;
-    let Ok(group) = pool.gate.close_open(lane) else {
+    let group = pool.gate.open_group();
+    let Ok(_) = pool.gate.close_open(lane) else {
         unreachable!()
     };
-    gather(&pool.gate, &mut pool.metaslab, &mut pool.buf, lane, group)?;
-    mark_runs(&mut pool.record, &pool.buf);
-    Ok(group)
+    let mut buf = RunBuf::new(alloc);
+    gather(&pool.gate, &mut pool.metaslab, &mut buf, lane, group)?;
+    let batch = Batch {
+        id: FIRST_METASLAB,
+        allocs: Items::from_vec(buf.allocs),
+        frees: Items::from_vec(buf.frees),
+    };
+    Ok(Closing { group, batch })
 }
 
-/// Commits the group that was closed last, and settles it; or keeps the device's fault.
-fn commit<D: Disk>(pool: &mut Pool, disk: &mut D, lane: u8, group: Group) -> Answer
+/// Commits the group that was closed last, and settles it; or keeps the device's fault, or the damage that was read. After
+/// want of memory nothing is settled, and the group is not committed.
+fn commit<D: Disk>(
+    alloc: Global,
+    pool: &mut Pool,
+    store: &mut MetaStore<D>,
+    lane: u8,
+    closing: Closing,
+) -> Result<Answer, AllocError>
     requires lane { IsLane lane }
-    requires next { group.0 ≡ settled_of pool.old.metaslab + 1 }
-    requires collected { group.0 ≤ collected_of pool.old.metaslab }
-    requires gate_next { group.0 ≡ synced_group pool.old.gate.opened pool.old.gate.notes + 1 }
-    requires gate_closed { group.0 < open_group pool.old.gate.opened pool.old.gate.notes }
-    ensures committed { IsCommitted pool.old pool.new lane group (D.faults disk.old) (D.faults disk.new) result }
-    ensures leaves { Tells (D.state disk.old) → result ≡ Answer.Done group → (c : List ℕ) → (D.state disk.new).may_leave c → IsStored c group.0 pool.new.record.units pool.new.record.bytes.items }
-    ensures spares { Tells (D.state disk.old) → Spares (Outside 0 (record_len pool.old.record.units)) (D.state disk.old) (D.state disk.new) }
+    requires due { IsDue pool.old store.old.layout store.old.table closing.group closing.batch }
+    requires small { closing.group.0 < 2 ^ 50 }
+    requires gate_next { closing.group.0 ≡ synced_group pool.old.gate.opened pool.old.gate.notes + 1 }
+    requires gate_closed { closing.group.0 < open_group pool.old.gate.opened pool.old.gate.notes }
+    ensures committed { IfOk result (IsCommitted pool.old pool.new lane closing.group (D.faults store.old.disk) (D.faults store.new.disk)) }
+    ensures err { OnErr result ((D.faults store.new.disk ≡ D.faults store.old.disk) × (pool.new ≡ pool.old)) }
+    ensures undamaged { IsRemembered pool.old store.old.layout store.old.table (D.state store.old.disk) → IfOk result (λ answer. damage_in answer ≡ None) }
     // Whatever is answered.
+    ensures store { IsStoreOf pool.new store.new.layout store.new.table }
+    ensures layout { store.new.layout ≡ store.old.layout }
+    ensures remembered { IsRemembered pool.old store.old.layout store.old.table (D.state store.old.disk) → StaysRemembered pool.old pool.new store.new.layout store.new.table (D.state store.old.disk) (D.state store.new.disk) }
+    ensures spares { Tells (D.state store.old.disk) → Spares (IsBeside store.old.layout) (D.state store.old.disk) (D.state store.new.disk) }
+    ensures flushes { Tells (D.state store.old.disk) → Adds (D.state store.old.disk) (D.state store.new.disk) }
     ensures stays { StaysButNotes pool.old.metaslab pool.new.metaslab }
     ensures gate { pool.new.gate.opened ≡ pool.old.gate.opened }
 {
-    let before = disk.faults();
-    if pool.record.commit(disk, group).is_err() {
-        let after = disk.faults();
-        pool.first = Some(First::Device { before, after });
-        return Answer::Device { before, after };
+    let before = store.faults();
+    let Closing { group, batch } = closing;
+    match store.commit(alloc, &[batch]) {
+        Ok(_) => {
+            pool.metaslab.settle(lane, group);
+            pool.gate.settled(group);
+            Ok(Answer::Done { group })
+        }
+        Err(CommitFault::Failed) => {
+            let after = store.faults();
+            pool.first = Some(First::Device { before, after });
+            Ok(Answer::Device { before, after })
+        }
+        Err(CommitFault::Damaged { id, damage }) => {
+            pool.first = Some(First::Damaged { id, damage });
+            Ok(Answer::Damaged { id, damage })
+        }
+        Err(CommitFault::Memory) => Err(AllocError),
     }
-    pool.metaslab.settle(lane, group);
-    pool.gate.settled(group);
-    Answer::Done { group }
 }
 
 /// Makes all changes so far lasting, after `spa_sync`: one group, while no fault is kept. Once one is, the device is left
 /// alone.
-pub(crate) fn sync<D: Disk>(pool: &mut Pool, disk: &mut D, lane: u8) -> Result<Answer, AllocError>
+pub(crate) fn sync<D: Disk>(
+    alloc: Global,
+    pool: &mut Pool,
+    store: &mut MetaStore<D>,
+    lane: u8,
+) -> Result<Answer, AllocError>
     requires pool { IsPool pool.old }
+    requires store { IsStoreOf pool.old store.old.layout store.old.table }
     requires lane { IsLane lane }
     requires few { closings_of lane pool.old.gate.notes < MAX_COMMANDS }
     ensures acted { IfOk result (λ answer. Acted pool.old pool.new lane (SyncLine (shape_of (origin_of pool.old.metaslab)) lane pool.old.first answer)) }
     ensures first { IfOk result (λ answer. pool.new.first ≡ first_with pool.old.first answer) }
     ensures synced { IfOk result (λ answer. settled_of pool.new.metaslab ≡ synced_after (settled_of pool.old.metaslab) Sync answer) }
-    ensures intervals { IfOk result (λ answer. AreIntervals (D.faults disk.old) (D.faults disk.new) (answer ∷ [])) }
-    ensures recorded { Tells (D.state disk.old) → IfOk result (λ answer. pool.new.first ≡ None → IsKept (origin_of pool.old.metaslab) pool.old.metaslab.notes pool.new.metaslab.notes (D.state disk.old) (D.state disk.new)) }
-    ensures spares { Tells (D.state disk.old) → Spares (Outside 0 (record_len pool.old.record.units)) (D.state disk.old) (D.state disk.new) }
-    ensures err { OnErr result ((disk.new ≡ disk.old) × ((pool.new.first ≡ pool.old.first) × LeavesSettled pool.old pool.new)) }
+    ensures intervals { IfOk result (λ answer. AreIntervals (D.faults store.old.disk) (D.faults store.new.disk) (answer ∷ [])) }
+    ensures undamaged { IsRemembered pool.old store.old.layout store.old.table (D.state store.old.disk) → IfOk result (λ answer. damage_in answer ≡ None) }
+    ensures err { OnErr result ((D.faults store.new.disk ≡ D.faults store.old.disk) × ((pool.new.first ≡ pool.old.first) × LeavesSettled pool.old pool.new)) }
     // Whatever is answered.
-    ensures suspended { IsSome pool.old.first → disk.new ≡ disk.old }
-    ensures leaves { IsSome pool.new.first → LeavesSettled pool.old pool.new }
+    ensures store { IsStoreOf pool.new store.new.layout store.new.table }
+    ensures layout { store.new.layout ≡ store.old.layout }
+    ensures remembered { IsRemembered pool.old store.old.layout store.old.table (D.state store.old.disk) → StaysRemembered pool.old pool.new store.new.layout store.new.table (D.state store.old.disk) (D.state store.new.disk) }
+    ensures spares { Tells (D.state store.old.disk) → Spares (IsBeside store.old.layout) (D.state store.old.disk) (D.state store.new.disk) }
+    ensures flushes { Tells (D.state store.old.disk) → Adds (D.state store.old.disk) (D.state store.new.disk) }
+    ensures suspended { IsSome pool.old.first → store.new ≡ store.old }
     ensures stays { StaysButNotes pool.old.metaslab pool.new.metaslab }
     ensures gate { pool.new.gate.opened ≡ pool.old.gate.opened }
 {
     if let Some(first) = pool.first {
         return Ok(Answer::Suspended { first });
     }
-    let group = close(pool, lane)?;
-    Ok(commit(pool, disk, lane, group))
+    let closing = close(alloc, pool, lane)?;
+    commit(alloc, pool, store, lane, closing)
 }

@@ -1,78 +1,92 @@
 //! The two calls of the program.
 
-ghost use Rattle.std.specs.Prelude.{◌≡◌, ℕ, ◌+◌, ◌^◌, ◌<◌, ◌≤◌, ◌↔◌, List, length, map, string_bytes, None, OnOk, IsErrOf};
+ghost use Rattle.std.specs.Prelude.{◌≡◌, ℕ, ◌+◌, ◌^◌, ◌<◌, ◌≤◌, ◌↔◌, List, length, map, string_bytes, None, IfOk};
 ghost use Rattle.zms_units.specs.Limits.{MAX_UNITS};
+ghost use Rattle.vdev_map.specs.Limits.{IsLayout};
+ghost use Rattle.meta_store.specs.declared.causes.At.{At};
 ghost use Rattle.zms_top.specs.Words.{Asks, AsksNothing};
-ghost use Rattle.zms_dev.specs.Causes.{HasCauseOf};
-ghost use Rattle.zms_dev.specs.Bytes.{Outside};
-ghost use Rattle.zms_dev.specs.Disk.{Tells};
-ghost use Rattle.zms_dev.specs.Runs.{Spares};
-ghost use Rattle.zms_top.specs.Record.{record_len};
 ghost use Rattle.zms_top.specs.Causes.{Cause, IsHonestRun, IsHonestCreate, IsDone};
 ghost use Rattle.zms_top.specs.World.{world};
-ghost use Rattle.zms_top.specs.Ends.{IsOfText, RunEnds, CreateEnds, WritesNew, IsEmptyRecord};
+ghost use Rattle.zms_top.specs.Creations.{created_layout, refused_status, IsAnnounced, CreateEnds};
+ghost use Rattle.zms_top.specs.Ends.{IsOfText, RunEnds};
 ghost use Rattle.zms_top.specs.declared.words.Asked.TheVariants.{Create, Run};
 ghost use Rattle.zms_top.specs.declared.status.Status.TheVariants.{Usage};
 
-use crate::first_record::{FirstRecord, StoreFault};
 use crate::output::write_created;
+use crate::pool::ASHIFT;
 use crate::run::run;
 use crate::status::{PoolCause, Shipped, Status};
 use crate::words::{Asked, read_words};
-use std::alloc::Global;
+use meta_store::CreateFault;
+use std::alloc::{AllocError, Global};
 use std::sync::Wait;
 use std::thread::Threads;
+use vdev_map::Layout;
 use zms_dev::{Data, Disk, Meet, Sink, Source};
-use zms_units::{Group, Items};
+use zms_units::{Class, Items, VdevRow};
 
-/// The group of a new pool.
-const FIRST_GROUP: Group = Group(zms_units::FIRST_GROUP);
+/// For how many groups a metaslab of a new pool may stay unflushed.
+const FLUSH: u32 = 8;
 
-/// Writes the record of an empty pool.
-fn store_empty<D: Disk>(alloc: Global, disk: &mut D, units: u32) -> Result<(), StoreFault>
+/// How many runs a group of a new pool may log.
+const LOG: u32 = 65536;
+
+/// The layout of a new pool.
+fn layout_for(alloc: Global, units: u32) -> Result<Layout, AllocError>
     requires least { 64 ≤ units }
     requires most { units ≤ MAX_UNITS }
-    ensures stored { Tells (D.state disk.old) → OnOk result ((c : List ℕ) → (D.state disk.new).may_leave c → IsEmptyRecord c units) }
-    ensures spares { Tells (D.state disk.old) → Spares (Outside 0 (record_len units)) (D.state disk.old) (D.state disk.new) }
-    ensures cause { HasCauseOf StoreFault.Failed StoreFault.Memory (D.faults disk.old) (D.faults disk.new) result }
-    ensures memory { IsErrOf result StoreFault.Memory → disk.new ≡ disk.old }
+    ensures layout { IfOk result (λ layout. layout ≡ created_layout units) }
+    ensures limits { IfOk result IsLayout }
 {
-    let mut record = FirstRecord::empty(alloc, units)?;
-    record.commit(disk, FIRST_GROUP)?;
-    Ok(())
+    let row = VdevRow {
+        class: Class::Normal,
+        ashift: ASHIFT,
+        units,
+        metaslabs: 1,
+    };
+    Ok(Layout {
+        flush: FLUSH,
+        log: LOG,
+        vdevs: Items::from_vec(vec![in alloc; row]?),
+    })
 }
 
-/// Writes the record of an empty pool to a device that has none, and says so.
-fn write_new<K: Sink, D: Disk>(alloc: Global, out: &mut K, disk: &mut D, units: u32) -> Status
-    requires least { 64 ≤ units }
-    requires most { units ≤ MAX_UNITS }
-    ensures { WritesNew units (K.state out.old) (K.state out.new) (D.state disk.old) (D.state disk.new) (D.faults disk.old) (D.faults disk.new) result }
+/// The status of a creation that was refused.
+fn refusal(fault: CreateFault) -> Status
+    ensures { result ≡ refused_status fault }
 {
-    match store_empty(alloc, disk, units) {
-        Err(StoreFault::Memory) => Status::Memory,
-        Err(StoreFault::Failed) => Status::DeviceFault,
-        Ok(()) => match write_created(out) {
-            Ok(()) => Status::Done,
-            Err(_) => Status::WriteFault,
+    match fault {
+        CreateFault::AlreadyPool { newest } => Status::NotAPool {
+            cause: PoolCause::AlreadyPool { newest },
         },
+        CreateFault::Failed => Status::DeviceFault,
+        CreateFault::Memory => Status::Memory,
     }
 }
 
-/// Writes the record of an empty pool, where the device has none.
-fn create<K: Sink, D: Disk>(alloc: Global, out: &mut K, disk: &mut D, units: u32) -> Status
+/// Says that a pool was created.
+fn announce<K: Sink>(out: &mut K) -> Status
+    ensures { IsAnnounced (K.state out.old) (K.state out.new) result }
+{
+    match write_created(out) {
+        Ok(()) => Status::Done,
+        Err(_) => Status::WriteFault,
+    }
+}
+
+/// Makes a pool, where the device has none, and says so.
+fn create<K: Sink, D: Disk>(alloc: Global, out: &mut K, disk: D, units: u32) -> (Status, D)
     requires least { 64 ≤ units }
     requires most { units ≤ MAX_UNITS }
-    ensures { CreateEnds units (K.state out.old) (K.state out.new) (D.state disk.old) (D.state disk.new) (D.faults disk.old) (D.faults disk.new) result }
+    ensures { CreateEnds units (K.state out.old) (K.state out.new) (D.state disk) (D.state result.1) (D.faults disk) (D.faults result.1) result.0 }
 {
-    match FirstRecord::read(alloc, disk) {
-        Ok(None) => write_new(alloc, out, disk, units),
-        Ok(Some(opened)) => Status::NotAPool {
-            cause: PoolCause::AlreadyPool {
-                newest: opened.group,
-            },
-        },
-        Err(StoreFault::Failed) => Status::DeviceFault,
-        Err(StoreFault::Memory) => Status::Memory,
+    let Ok(layout) = layout_for(alloc, units) else {
+        return (Status::Memory, disk);
+    };
+    let (disk, made) = meta_store::create(alloc, disk, &layout);
+    match made {
+        Ok(()) => (announce(out), disk),
+        Err(fault) => (refusal(fault), disk),
     }
 }
 
@@ -87,13 +101,12 @@ pub fn zms_still<K: Sink, D: Disk>(
     meta: D,
 ) -> (Status, D)
     ensures usage { AsksNothing (map string_bytes words.now) → (result.0 ≡ Usage) × ((K.state out.new ≡ K.state out.old) × (result.1 ≡ meta)) }
-    ensures run { Asks (map string_bytes words.now) Run → (result.0 ≡ Usage) × ((K.state out.new ≡ K.state out.old) × (result.1 ≡ meta)) }
+    ensures run { (at : At) → Asks (map string_bytes words.now) (Run at) → (result.0 ≡ Usage) × ((K.state out.new ≡ K.state out.old) × (result.1 ≡ meta)) }
     ensures create { (units : ℕ) → Asks (map string_bytes words.now) (Create units) → CreateEnds units (K.state out.old) (K.state out.new) (D.state meta) (D.state result.1) (D.faults meta) (D.faults result.1) result.0 }
 {
-    let mut meta = meta;
     match read_words(words) {
-        Some(Asked::Create { units }) => (create(alloc, out, &mut meta, units), meta),
-        Some(Asked::Run) => (Status::Usage, meta),
+        Some(Asked::Create { units }) => create(alloc, out, meta, units),
+        Some(Asked::Run { .. }) => (Status::Usage, meta),
         None => (Status::Usage, meta),
     }
 }
@@ -123,21 +136,20 @@ where
     V: Data,
     M: Meet,
     requires { length devices.items ≡ 16 }
-    ensures run { Asks (map string_bytes words.now) Run → RunEnds (world (S.state input.old) (K.state out.old) (T.state trace.old) (D.state meta) (D.faults meta)) (world (S.state input.new) (K.state out.new) (T.state trace.new) (D.state result.meta) (D.faults result.meta)) result.status result.journals result.lists }
+    ensures run { (at : At) → Asks (map string_bytes words.now) (Run at) → RunEnds at (world (S.state input.old) (K.state out.old) (T.state trace.old) (D.state meta) (D.faults meta)) (world (S.state input.new) (K.state out.new) (T.state trace.new) (D.state result.meta) (D.faults result.meta)) result.status result.journals result.lists }
     ensures create { (units : ℕ) → Asks (map string_bytes words.now) (Create units) → CreateEnds units (K.state out.old) (K.state out.new) (D.state meta) (D.state result.meta) (D.faults meta) (D.faults result.meta) result.status }
     ensures usage { AsksNothing (map string_bytes words.now) → (result.status ≡ Usage) × ((K.state out.new ≡ K.state out.old) × (result.meta ≡ meta)) }
     ensures cause { Cause (map string_bytes words.now) (world (S.state input.old) (K.state out.old) (T.state trace.old) (D.state meta) (D.faults meta)) (world (S.state input.new) (K.state out.new) (T.state trace.new) (D.state result.meta) (D.faults result.meta)) result.status }
     ensures complete_run { IsHonestRun (map string_bytes words.now) (world (S.state input.old) (K.state out.old) (T.state trace.old) (D.state meta) (D.faults meta)) (world (S.state input.new) (K.state out.new) (T.state trace.new) (D.state result.meta) (D.faults result.meta)) → IsDone result.status }
     ensures complete_create { IsHonestCreate (map string_bytes words.now) (world (S.state input.old) (K.state out.old) (T.state trace.old) (D.state meta) (D.faults meta)) (world (S.state input.new) (K.state out.new) (T.state trace.new) (D.state result.meta) (D.faults result.meta)) → IsDone result.status }
     ensures unread { IsOfText result.status → result.meta ≡ meta }
-    ensures input { (Asks (map string_bytes words.now) Run → ⊥) → (input.new ≡ input.old) × ((result.journals ≡ None) × (result.lists ≡ None)) }
+    ensures input { ((at : At) → Asks (map string_bytes words.now) (Run at) → ⊥) → (input.new ≡ input.old) × ((result.journals ≡ None) × (result.lists ≡ None)) }
     ensures devices { result.devices ≡ devices.items }
-    ensures trace { (Asks (map string_bytes words.now) Run → ⊥) → trace.new ≡ trace.old }
+    ensures trace { ((at : At) → Asks (map string_bytes words.now) (Run at) → ⊥) → trace.new ≡ trace.old }
 {
-    let mut meta = meta;
     match read_words(words) {
-        Some(Asked::Run) => {
-            let ended = run(alloc, input, out, trace, &mut meta, meet);
+        Some(Asked::Run { at }) => {
+            let (ended, meta) = run(alloc, input, out, trace, meta, at, meet);
             Shipped {
                 status: ended.status,
                 meta,

@@ -1,21 +1,22 @@
 //! The words of the command line, read by hand: each form is what its words are (`specs/Words.antt`).
 
-ghost use Rattle.std.specs.Prelude.{◌≡◌, ℕ, ◌≤◌, List, ◌∷◌, ◌++◌, ◌↔◌, map, string_bytes, Some, IsTrue, IsSome, IfSome, IfNone};
+ghost use Rattle.std.specs.Prelude.{◌≡◌, ℕ, ◌^◌, ◌<◌, ◌≤◌, List, [], ◌∷◌, ◌++◌, ◌↔◌, map, string_bytes, Some, IsTrue, IsSome, IfSome, IfNone};
 ghost use Rattle.std.specs.List.{list_all};
 ghost use Rattle.zms_units.specs.Limits.{IsUnitCount};
-ghost use Rattle.zms_top.specs.Words.{is_pool_byte, Asks, AsksNothing, IsPoolName, IsSecond, spec_text};
+ghost use Rattle.zms_top.specs.Words.{is_pool_byte, Asks, AsksNothing, IsPoolName, AreOfPool, ArePoolAndGroup, group_word, spec_text};
 ghost use Rattle.zms_top.specs.declared.words.Asked.{Asked};
 
-use cmd_text::fields::{is_digit, is_lowercase, number};
-use zms_units::{MAX_UNITS, MIN_UNITS};
+use cmd_text::fields::{is_digit, is_lowercase, number, numeral};
+use meta_store::At;
+use zms_units::{Group, MAX_UNITS, MIN_UNITS};
 
 /// What the words of the command line ask for.
 #[derive(Clone, Copy, Debug, PartialEq, Eq)]
 pub enum Asked {
     /// A new pool: one normal vdev of 4096-byte units, with one metaslab of so many units.
     Create { units: u32 },
-    /// A run of a command file.
-    Run,
+    /// A run of a command file over the pool as it is at this group.
+    Run { at: At },
 }
 
 /// What stands behind `head`, where the text begins with it.
@@ -61,8 +62,56 @@ fn units_of_spec(spec: &[u8]) -> Option<u32>
     }
 }
 
+/// The end of the numbers of the command line, which have at most 19 digits.
+const NUMBERS_END: u64 = 10_000_000_000_000_000_000;
+
+/// The group of an option `--group=G`.
+fn group_of_word(word: &[u8]) -> Option<u64>
+    ensures some { IfSome result (λ group. (group_word group ≡ word.now) × (group < 10 ^ 19)) }
+    ensures none { IfNone result ((group : ℕ) → group < 10 ^ 19 → group_word group ≡ word.now → ⊥) }
+{
+    let group = numeral(after(word, b"--group=")?)?;
+    if group < NUMBERS_END {
+        Some(group)
+    } else {
+        None
+    }
+}
+
+/// The group of two words of which one is a pool's name and the other the option.
+fn group_among(one: &[u8], two: &[u8]) -> Option<u64>
+    ensures some { IfSome result (λ group. (name : List ℕ) × (IsPoolName name × ArePoolAndGroup one.now two.now name group)) }
+    ensures none { IfNone result ((name : List ℕ) (group : ℕ) → IsPoolName name → ArePoolAndGroup one.now two.now name group → ⊥) }
+{
+    if is_pool_name(one) {
+        return group_of_word(two);
+    }
+    if is_pool_name(two) {
+        return group_of_word(one);
+    }
+    None
+}
+
+/// What a command and two words behind it ask for.
+fn read_three(command: &str, one: &[u8], two: &[u8]) -> Option<Asked>
+    ensures asks { IfSome result (λ asked. Asks (command.now ∷ one.now ∷ two.now ∷ []) asked) }
+    ensures nothing { IfNone result (AsksNothing (command.now ∷ one.now ∷ two.now ∷ [])) }
+{
+    if command == "run" {
+        let group = group_among(one, two)?;
+        return Some(Asked::Run {
+            at: At::Group(Group(group)),
+        });
+    }
+    if command != "create" || !is_pool_name(one) {
+        return None;
+    }
+    let units = units_of_spec(two)?;
+    Some(Asked::Create { units })
+}
+
 /// What the words of the command line ask for; none exactly where they are outside the grammar: `create POOL
-/// normal:12:UNITS:1`, or `run POOL`.
+/// normal:12:UNITS:1`, or `run POOL`, which may have one option `--group=G` in front of the pool or behind it.
 pub fn read_words(words: &[String]) -> Option<Asked>
     ensures asks { IfSome result (λ asked. Asks (map string_bytes words.now) asked) }
     ensures nothing { IfNone result (AsksNothing (map string_bytes words.now)) }
@@ -71,27 +120,25 @@ pub fn read_words(words: &[String]) -> Option<Asked>
     match words {
         [command, pool] => {
             if command.as_str() == "run" && is_pool_name(pool.as_bytes()) {
-                Some(Asked::Run)
+                Some(Asked::Run { at: At::Newest })
             } else {
                 None
             }
         }
-        [command, pool, spec] => {
-            if command.as_str() != "create" || !is_pool_name(pool.as_bytes()) {
-                return None;
-            }
-            let units = units_of_spec(spec.as_bytes())?;
-            Some(Asked::Create { units })
-        }
+        [command, one, two] => read_three(command.as_str(), one.as_bytes(), two.as_bytes()),
         _ => None,
     }
 }
 
-/// The pool's name, the second of words that are in the grammar.
+/// The pool's name, where the words are in the grammar: the first word behind the command that is one.
 pub fn pool_name(words: &[String]) -> Option<&str>
-    ensures some { IfSome result (λ name. IsPoolName name.now × IsSecond (map string_bytes words.now) name.now) }
+    ensures some { IfSome result (λ name. IsPoolName name.now × AreOfPool (map string_bytes words.now) name.now) }
     ensures asked { IsSome result ↔ ((asked : Asked) × Asks (map string_bytes words.now) asked) }
 {
     read_words(words)?;
-    Some(words[1].as_str())
+    let second = words[1].as_str();
+    if is_pool_name(second.as_bytes()) {
+        return Some(second);
+    }
+    Some(words[2].as_str())
 }

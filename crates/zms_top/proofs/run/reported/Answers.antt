@@ -1,6 +1,6 @@
 use Rattle.std.proofs.Common.{refl, ◌∙◌, ap}
 use Rattle.zms_top.specs.Answers.{paired}
-use Rattle.zms_top.specs.Ends.{any_device, end_status}
+use Rattle.zms_top.specs.Ends.{any_device, first_damage, end_status}
 use Rattle.zms_top.specs.Reports.{HandsOver, IsPrinted}
 use Rattle.zms_top.proofs.ShipLemmas.{stops_by}
 use Rattle.zms_top.proofs.run.reported.Goals as goal
@@ -29,5 +29,5 @@ returns g c =
         traces = c.trace_journals-written.ensures.traces;
         stops = stops_by g.T.Sink.state c.args.trace.now c.trace_journals-written.new.trace c.print-printed.result written c.trace_journals-written.ensures.stops;
       };
-      status_is = c.status_of.ensures ∙ ap (λ r. end_status (any_device r) written) (c.as_slice.ensures ∙ handed.replies_are);
+      status_is = c.status_of.ensures ∙ ap (λ r. end_status (any_device r) (first_damage r) written) (c.as_slice.ensures ∙ handed.replies_are);
     }

@@ -1,5 +1,5 @@
 use Rattle.std.proofs.Common.{◌≡◌, subst}
-use Rattle.zms_top.specs.Ends.{CreateEnds}
+use Rattle.zms_top.specs.Creations.{CreateEnds}
 use Rattle.zms_top.specs.declared.words.Asked.TheVariants.{Create}
 use Rattle.zms_top.proofs.top.zms_still.Goals as goal
 
@@ -8,7 +8,7 @@ returns-in-Some-Create-clause-create g c = λ units asks.
     let is = c.read_words.ensures.only (Create units) asks in
     let same : c.in-Some-Create.units ≡ units = cc in
     subst
-    (λ u. CreateEnds u (g.K.Sink.state c.args.out.now) (g.K.Sink.state c.create.new.out) (g.D.Disk.state c.args.meta) (g.D.Disk.state c.create.new.disk) (g.D.Disk.faults c.args.meta) (g.D.Disk.faults c.create.new.disk) c.create.result)
+    (λ u. CreateEnds u (g.K.Sink.state c.args.out.now) (g.K.Sink.state c.create.new.out) (g.D.Disk.state c.args.meta) (g.D.Disk.state c.create.result.1) (g.D.Disk.faults c.args.meta) (g.D.Disk.faults c.create.result.1) c.create.result.0)
     same c.create.ensures
 
 pub returns-in-None-clause-create : goal.returns-in-None-clause-create
