@@ -1,7 +1,7 @@
 -- The moments of a commit: laying the next group down, and then making it openable.
 use Rattle.std.proofs.Common.{◌≡◌, ◌⊎◌, inl, inr, ℕ, ◌+◌, ◌%◌, ◌<◌, ◌^◌, List, refl, sym, ◌∙◌, ap, subst, arith}
 use Rattle.zms_dev.specs.Bytes.{Outside, Same, Torn}
-use Rattle.zms_dev.specs.Disk.{DiskState, bytes_of, Only}
+use Rattle.zms_dev.specs.Disk.{DiskState, Tells, bytes_of, Only}
 use Rattle.zms_dev.specs.Runs.{LeavesOnly, Before, Spares}
 use Rattle.zms_dev.proofs.Moments.{joined, weaker}
 use Rattle.zms_dev.proofs.Sparing.{torn_then, torn_less}
@@ -204,3 +204,48 @@ module _ (layout : Layout) (table : Table) (batches : List Batch) (t : Group) (n
             subst (λ (d : List ℕ). RestsAt layout next.table d) (sym (durable c now))
             (valid_rests (bytes_of old) (bytes_of mid) rests are next is_next same_t named laid run.contents (bytes_of new) opened.contents written.valid contents found backed);
       }
+
+-- the same, said as the calls say it: of a head that is the layout's, and of the table's vdevs
+module _ (layout : Layout) (table : Table) (batches : List Batch) (head : Head) (head_is : head ≡ head_of layout) (same : table.vdevs ≡ layout.vdevs) (old mid : DiskState) (at_rest : IsAtRest old layout table)
+    (spares : Spares (IsSpared head table.vdevs (record { 0 = table.group.0 + 1 })) old mid) where
+  abbrev t : Group
+  t = record { 0 = table.group.0 + 1 }
+
+  laid_run : Spares (IsSpared (head_of layout) layout.vdevs t) old mid
+  laid_run =
+      subst (λ (v : List VdevRow). Spares (IsSpared (head_of layout) v t) old mid) same
+      (subst (λ (h : Head). Spares (IsSpared h table.vdevs t) old mid) head_is spares)
+
+  pub before_the_slot : LeavesOnly old mid (IsBeforeOrAfter old table.group.0 batches)
+  before_the_slot = moments_laid layout table batches t refl old mid at_rest laid_run
+
+  pub rests_before_the_slot : IsAtRest mid layout table
+  rests_before_the_slot = laid_at_rest layout table batches t refl old mid at_rest laid_run
+
+  module _ (reads : old.may_leave (bytes_of old)) where
+    keeps : KeepsWords (bytes_of old) head table t
+    keeps = subst (λ (h : Head). KeepsWords (bytes_of old) h table t) (sym head_is) (keeps_words layout table batches t refl (bytes_of old) (at_rest.each (bytes_of old) reads) same)
+
+    pub honest_fault : (fault : CommitFault) → (KeepsWords (bytes_of old) head table t → IsCommitFault (bytes_of old) table fault) → IsCommitFailure fault
+    honest_fault fault shows = honest layout table batches t refl (bytes_of old) (at_rest.each (bytes_of old) reads) fault (shows keeps)
+
+    module _ (new : DiskState) (are : AreBatches table batches) (named : table.group.0 + 1 < 2 ^ 50) (next : NextGroup) (is_next : IsNextGroup head table batches next) (same_t : next.table.group ≡ t)
+        (laid : KeepsWords (bytes_of old) head table t → IsLaid (bytes_of old) (bytes_of mid) head table batches next) (flushed : Only (bytes_of mid) mid.may_leave)
+        (opened : Tells mid → Spares (Outside (slot_place next.uber.group.0) 1024) mid new) where
+      next_is : IsNextGroup (head_of layout) table batches next
+      next_is = subst (λ (h : Head). IsNextGroup h table batches next) head_is is_next
+
+      laid_is : IsLaid (bytes_of old) (bytes_of mid) (head_of layout) table batches next
+      laid_is = subst (λ (h : Head). IsLaid (bytes_of old) (bytes_of mid) h table batches next) head_is (laid keeps)
+
+      pub with_the_slot : (Tells mid → HasFlushed mid (slot_place next.uber.group.0) 1024 → LeavesOnly mid new (IsOldOrNew (bytes_of mid) next.uber)) → LeavesOnly old new (IsBeforeOrAfter old table.group.0 batches)
+      with_the_slot slot =
+          moments layout table batches t refl old mid new at_rest reads are next next_is same_t named laid_is laid_run flushed (opened laid_run.tells)
+          (slot laid_run.tells (slot_flushed layout table batches t refl old mid new at_rest reads are next next_is same_t named laid_is laid_run flushed (opened laid_run.tells)))
+
+      module _ (written : Tells mid → IsWritten (bytes_of new) next.uber) (durable : Tells mid → Only (bytes_of new) new.may_leave) where
+        pub slot_commits : (c : List ℕ) → new.may_leave c → IsCommitted old table.group.0 batches c
+        slot_commits = committed layout table batches t refl old mid new at_rest reads are next next_is same_t named laid_is laid_run flushed (opened laid_run.tells) (written laid_run.tells) (durable laid_run.tells)
+
+        pub rests_behind_the_slot : (contents : Contents) → Finds (bytes_of old) table.group.0 contents → AreBacked contents batches → IsAtRest new layout next.table
+        rests_behind_the_slot = rests_on layout table batches t refl old mid new at_rest reads are next next_is same_t named laid_is laid_run flushed (opened laid_run.tells) (written laid_run.tells) (durable laid_run.tells)

@@ -1,6 +1,10 @@
 -- What an image shows of a group is certain.
 use Rattle.std.proofs.Common.{◌≡◌, ℕ, ◌%◌, ◌<◌, Bool, List, sym, ◌∙◌, ap, subst, arith}
+use Rattle.zms_units.specs.Segments.{covered}
+use Rattle.zms_units.specs.declared.places.MsId.{MsId}
 use Rattle.zms_units.specs.declared.places.VdevRow.{VdevRow}
+use Rattle.zms_units.specs.declared.segments.Group.{Group}
+use Rattle.zms_units.specs.declared.segments.Seg.{Seg}
 use Rattle.vdev_map.specs.Numbers.{IsIn, row_at}
 use Rattle.vdev_map.specs.declared.layout.Layout.{Layout}
 use Rattle.vdev_map.specs.declared.layout.Head.{Head}
@@ -14,11 +18,12 @@ use Rattle.space_map.specs.declared.places.MapKind.TheVariants.{Side}
 use Rattle.space_map.specs.declared.places.Found.{Found}
 use Rattle.space_map.proofs.Deciding.{runs_certain}
 use Rattle.meta_store.specs.Causes.{IsAsked, asked_group}
-use Rattle.meta_store.specs.Groups.{HasRows, Contents, Finds, layout_of}
+use Rattle.meta_store.specs.Groups.{HasRows, HasGroup, Contents, Finds, layout_of}
 use Rattle.meta_store.specs.Heads.{IsWholeHead}
 use Rattle.meta_store.specs.Laws.{SameContents}
-use Rattle.meta_store.specs.Words.{units_of, words_in}
+use Rattle.meta_store.specs.Words.{units_of, words_in, AreHeldRuns}
 use Rattle.meta_store.specs.declared.causes.At.{At}
+use Rattle.meta_store.proofs.KeptPlaces.{group_of_table}
 
 pub one_of_group : (image : List ℕ) (one other : Uber) → one.group.0 ≡ other.group.0 → IsValid image one → IsValid image other → one ≡ other
 one_of_group image one other same first second = one_in_slot image one other (ap (λ (n : ℕ). n % 128) same) first second
@@ -71,3 +76,16 @@ module _ (image : List ℕ) (group : ℕ) (one other : Contents) (first : Finds 
         (subst (λ (t : Table). Replays (Side (units_of t id)) (words_in image t id) u (one.held id u)) same_table (first.found id u here below))
         (second.found id u (subst (λ (t : Table). IsIn t.vdevs id) same_table here) (omega (arith, ap (λ (t : Table). units_of t id) same_table, below)));
   }
+
+-- the runs that the words of a metaslab hold are the units that the group finds there
+pub runs_are_found : (image : List ℕ) (uber : Uber) (head : Head) (table : Table) (id : MsId) (runs : List Seg) (contents : Contents) → HasGroup image uber head table → Finds image table.group.0 contents
+    → IsIn table.vdevs id → AreHeldRuns (words_in image table id) (units_of table id) runs → (u : ℕ) → u < units_of table id → covered runs u ≡ contents.held id u
+runs_are_found image uber head table id runs contents has finds inside are u lt =
+    let named : uber.group.0 ≡ table.group.0 = ap (λ (g : Group). g.0) (group_of_table image uber head table has.rows.has_table) in
+    let same : finds.uber ≡ uber = one_of_group image finds.uber uber (finds.named ∙ sym named) finds.has.valid has.valid in
+    let rows : HasRows image uber finds.head finds.table = subst (λ (v : Uber). HasRows image v finds.head finds.table) same finds.has.rows in
+    let is : finds.table ≡ table = one_table image uber finds.head head finds.table table rows has.rows in
+    let within : u < units_of finds.table id = omega (arith, ap (λ (t : Table). units_of t id) is, lt) in
+    let says : Replays (Side (units_of table id)) (words_in image table id) u (contents.held id u) =
+    subst (λ (t : Table). Replays (Side (units_of t id)) (words_in image t id) u (contents.held id u)) is (finds.found id u (subst (λ (t : Table). IsIn t.vdevs id) (sym is) inside) within) in
+    one_replay (Side (units_of table id)) (words_in image table id) u (covered runs u) (contents.held id u) (record { found = are.found; decodes = are.decodes; says = sym (are.maximal.whole u lt) }) says

@@ -111,6 +111,8 @@ impl<D: Disk> MetaStore<D> {
     pub fn found(&mut self, alloc: Global, id: MsId) -> Result<Vec<Seg>, FoundFault>
         requires { IsIn self.old.layout.vdevs id }
         ensures runs { Tells (D.state self.old.disk) → IfOk result (λ runs. AreHeldRuns (words_in (bytes_of (D.state self.old.disk)) self.old.table id) (units_of self.old.table id) runs.items) }
+        ensures finds { (uber : Uber) (contents : Contents) → Tells (D.state self.old.disk) → HasStore (bytes_of (D.state self.old.disk)) uber self.old.layout self.old.table → Finds (bytes_of (D.state self.old.disk)) self.old.table.group.0 contents
+            → IfOk result (λ runs. (u : ℕ) → u < units_of self.old.table id → covered runs.items u ≡ contents.held id u) }
         ensures maximal { IfOk result (λ runs. AreMaximalRuns (covered runs.items) (units_of self.old.table id) runs.items) }
         ensures count { IfOk result (λ runs. total_of runs.items ≡ (row_of self.old.table id).held) }
         ensures fault { Tells (D.state self.old.disk) → IfErr result (IsFoundFault (bytes_of (D.state self.old.disk)) self.old.table id) }

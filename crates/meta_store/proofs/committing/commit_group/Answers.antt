@@ -1,6 +1,6 @@
-use Rattle.std.proofs.Common.{◌≡◌, ℕ, ◌+◌, List, refl, sym, ◌∙◌, ap, subst}
+use Rattle.std.proofs.Common.{◌≡◌, ℕ, ◌+◌, List, ◌∙◌, ap, subst}
 use Rattle.zms_dev.specs.Bytes.{Outside}
-use Rattle.zms_dev.specs.Disk.{DiskState, bytes_of}
+use Rattle.zms_dev.specs.Disk.{DiskState}
 use Rattle.zms_dev.specs.Runs.{Spares}
 use Rattle.zms_units.specs.declared.places.VdevRow.{VdevRow}
 use Rattle.zms_units.specs.declared.segments.Group.{Group}
@@ -10,72 +10,30 @@ use Rattle.uber_ring.proofs.Stages.{flushes_then}
 use Rattle.meta_store.specs.CommitFaults.{IsCommitFailure}
 use Rattle.meta_store.specs.Heads.{head_of}
 use Rattle.zms_dev.proofs.Sparing.{spares_then, spares_less}
-use Rattle.meta_store.specs.NextGroups.{IsSpared, IsLeft, KeepsWords, IsNextGroup, IsLaid}
-use Rattle.meta_store.proofs.Committed.{keeps_words, moments_laid, laid_at_rest, honest, slot_flushed, moments, committed, rests_on}
+use Rattle.meta_store.specs.NextGroups.{IsSpared, IsLeft}
+use Rattle.meta_store.proofs.Committed.{before_the_slot, rests_before_the_slot, honest_fault, with_the_slot, slot_commits, rests_behind_the_slot}
 use Rattle.meta_store.proofs.Handing.{handed_on}
 use Rattle.meta_store.proofs.committing.commit_group.Goals as goal
 
 pub returns-in_err-next-clause-any_moment : goal.returns-in_err-next-clause-any_moment
 returns-in_err-next-clause-any_moment g c at_rest =
-    let layout = c.args.layout.now in
-    let table = c.args.table.now in
-    let t : Group = record { 0 = table.group.0 + 1 } in
-    let old = g.D.Disk.state c.args.disk.now in
-    let mid = g.D.Disk.state c.lay_down.new.disk in
-    let run : Spares (IsSpared (head_of layout) layout.vdevs t) old mid =
-    subst (λ (v : List VdevRow). Spares (IsSpared (head_of layout) v t) old mid) c.requires.store.vdevs
-    (subst (λ (h : Head). Spares (IsSpared h table.vdevs t) old mid) c.head_for-head.ensures (c.lay_down.ensures.spares at_rest.tells)) in
-    moments_laid layout table c.args.batches.now t refl old mid at_rest run
+    before_the_slot c.args.layout.now c.args.table.now c.args.batches.now c.head_for-head.result c.head_for-head.ensures c.requires.store.vdevs (g.D.Disk.state c.args.disk.now) (g.D.Disk.state c.lay_down.new.disk) at_rest (c.lay_down.ensures.spares at_rest.tells)
 
 pub returns-in_err-next-clause-memory : goal.returns-in_err-next-clause-memory
 returns-in_err-next-clause-memory g c at_rest is =
-    let layout = c.args.layout.now in
-    let table = c.args.table.now in
-    let t : Group = record { 0 = table.group.0 + 1 } in
-    let old = g.D.Disk.state c.args.disk.now in
-    let mid = g.D.Disk.state c.lay_down.new.disk in
-    let run : Spares (IsSpared (head_of layout) layout.vdevs t) old mid =
-    subst (λ (v : List VdevRow). Spares (IsSpared (head_of layout) v t) old mid) c.requires.store.vdevs
-    (subst (λ (h : Head). Spares (IsSpared h table.vdevs t) old mid) c.head_for-head.ensures (c.lay_down.ensures.spares at_rest.tells)) in
-    laid_at_rest layout table c.args.batches.now t refl old mid at_rest run
+    rests_before_the_slot c.args.layout.now c.args.table.now c.args.batches.now c.head_for-head.result c.head_for-head.ensures c.requires.store.vdevs (g.D.Disk.state c.args.disk.now) (g.D.Disk.state c.lay_down.new.disk) at_rest (c.lay_down.ensures.spares at_rest.tells)
 
 pub returns-in_err-next-clause-honest : goal.returns-in_err-next-clause-honest
 returns-in_err-next-clause-honest g c at_rest =
-    let layout = c.args.layout.now in
-    let table = c.args.table.now in
-    let batches = c.args.batches.now in
-    let t : Group = record { 0 = table.group.0 + 1 } in
-    let old = g.D.Disk.state c.args.disk.now in
-    let reads = g.met.D.Disk.reads_as c.args.disk.now at_rest.tells in
-    let rests = at_rest.each (bytes_of old) reads in
-    let keeps : KeepsWords (bytes_of old) c.head_for-head.result table t =
-    subst (λ (h : Head). KeepsWords (bytes_of old) h table t) (sym c.head_for-head.ensures) (keeps_words layout table batches t refl (bytes_of old) rests c.requires.store.vdevs) in
     handed_on c.from_residual.result c.in_err-next.field-0.0 IsCommitFailure c.from_residual.ensures.1
-    (honest layout table batches t refl (bytes_of old) rests c.in_err-next.field-0.0 (c.in_err-next.ensures.fault at_rest.tells keeps))
+    (honest_fault c.args.layout.now c.args.table.now c.args.batches.now c.head_for-head.result c.head_for-head.ensures c.requires.store.vdevs (g.D.Disk.state c.args.disk.now) (g.D.Disk.state c.lay_down.new.disk) at_rest (c.lay_down.ensures.spares at_rest.tells)
+    (g.met.D.Disk.reads_as c.args.disk.now at_rest.tells) c.in_err-next.field-0.0 (c.in_err-next.ensures.fault at_rest.tells))
 
 pub returns-in_err-write_slot-clause-any_moment : goal.returns-in_err-write_slot-clause-any_moment
 returns-in_err-write_slot-clause-any_moment g c at_rest =
-    let layout = c.args.layout.now in
-    let table = c.args.table.now in
-    let batches = c.args.batches.now in
-    let t : Group = record { 0 = table.group.0 + 1 } in
-    let old = g.D.Disk.state c.args.disk.now in
-    let mid = g.D.Disk.state c.lay_down.new.disk in
-    let new = g.D.Disk.state c.write_slot.new.disk in
-    let e = c.head_for-head.ensures in
-    let run : Spares (IsSpared (head_of layout) layout.vdevs t) old mid =
-    subst (λ (v : List VdevRow). Spares (IsSpared (head_of layout) v t) old mid) c.requires.store.vdevs
-    (subst (λ (h : Head). Spares (IsSpared h table.vdevs t) old mid) e (c.lay_down.ensures.spares at_rest.tells)) in
-    let reads = g.met.D.Disk.reads_as c.args.disk.now at_rest.tells in
-    let keeps : KeepsWords (bytes_of old) c.head_for-head.result table t =
-    subst (λ (h : Head). KeepsWords (bytes_of old) h table t) (sym e) (keeps_words layout table batches t refl (bytes_of old) (at_rest.each (bytes_of old) reads) c.requires.store.vdevs) in
-    let next = c.in_ok-next.next in
-    let is_next : IsNextGroup (head_of layout) table batches next = subst (λ (h : Head). IsNextGroup h table batches next) e c.in_ok-next.ensures.next in
-    let laid : IsLaid (bytes_of old) (bytes_of mid) (head_of layout) table batches next = subst (λ (h : Head). IsLaid (bytes_of old) (bytes_of mid) h table batches next) e (c.in_ok-next.ensures.laid at_rest.tells keeps) in
-    let flushed = c.in_ok-next.ensures.durable at_rest.tells in
-    let opened = c.write_slot.ensures.spares run.tells in
-    moments layout table batches t refl old mid new at_rest reads c.requires.batches next is_next c.in_ok-next.ensures.group c.requires.group laid run flushed opened
-    (c.write_slot.ensures.any_moment run.tells (slot_flushed layout table batches t refl old mid new at_rest reads c.requires.batches next is_next c.in_ok-next.ensures.group c.requires.group laid run flushed opened))
+    with_the_slot c.args.layout.now c.args.table.now c.args.batches.now c.head_for-head.result c.head_for-head.ensures c.requires.store.vdevs (g.D.Disk.state c.args.disk.now) (g.D.Disk.state c.lay_down.new.disk) at_rest (c.lay_down.ensures.spares at_rest.tells)
+    (g.met.D.Disk.reads_as c.args.disk.now at_rest.tells) (g.D.Disk.state c.write_slot.new.disk) c.requires.batches c.requires.group c.in_ok-next.next c.in_ok-next.ensures.next c.in_ok-next.ensures.group
+    (c.in_ok-next.ensures.laid at_rest.tells) (c.in_ok-next.ensures.durable at_rest.tells) c.write_slot.ensures.spares c.write_slot.ensures.any_moment
 
 pub returns-in_err-write_slot-clause-flushes : goal.returns-in_err-write_slot-clause-flushes
 returns-in_err-write_slot-clause-flushes g c tells =
@@ -84,75 +42,21 @@ returns-in_err-write_slot-clause-flushes g c tells =
 
 pub returns-clause-any_moment : goal.returns-clause-any_moment
 returns-clause-any_moment g c at_rest =
-    let layout = c.args.layout.now in
-    let table = c.args.table.now in
-    let batches = c.args.batches.now in
-    let t : Group = record { 0 = table.group.0 + 1 } in
-    let old = g.D.Disk.state c.args.disk.now in
-    let mid = g.D.Disk.state c.lay_down.new.disk in
-    let new = g.D.Disk.state c.write_slot.new.disk in
-    let e = c.head_for-head.ensures in
-    let run : Spares (IsSpared (head_of layout) layout.vdevs t) old mid =
-    subst (λ (v : List VdevRow). Spares (IsSpared (head_of layout) v t) old mid) c.requires.store.vdevs
-    (subst (λ (h : Head). Spares (IsSpared h table.vdevs t) old mid) e (c.lay_down.ensures.spares at_rest.tells)) in
-    let reads = g.met.D.Disk.reads_as c.args.disk.now at_rest.tells in
-    let keeps : KeepsWords (bytes_of old) c.head_for-head.result table t =
-    subst (λ (h : Head). KeepsWords (bytes_of old) h table t) (sym e) (keeps_words layout table batches t refl (bytes_of old) (at_rest.each (bytes_of old) reads) c.requires.store.vdevs) in
-    let next = c.in_ok-next.next in
-    let is_next : IsNextGroup (head_of layout) table batches next = subst (λ (h : Head). IsNextGroup h table batches next) e c.in_ok-next.ensures.next in
-    let laid : IsLaid (bytes_of old) (bytes_of mid) (head_of layout) table batches next = subst (λ (h : Head). IsLaid (bytes_of old) (bytes_of mid) h table batches next) e (c.in_ok-next.ensures.laid at_rest.tells keeps) in
-    let flushed = c.in_ok-next.ensures.durable at_rest.tells in
-    let opened = c.write_slot.ensures.spares run.tells in
-    moments layout table batches t refl old mid new at_rest reads c.requires.batches next is_next c.in_ok-next.ensures.group c.requires.group laid run flushed opened
-    (c.write_slot.ensures.any_moment run.tells (slot_flushed layout table batches t refl old mid new at_rest reads c.requires.batches next is_next c.in_ok-next.ensures.group c.requires.group laid run flushed opened))
+    with_the_slot c.args.layout.now c.args.table.now c.args.batches.now c.head_for-head.result c.head_for-head.ensures c.requires.store.vdevs (g.D.Disk.state c.args.disk.now) (g.D.Disk.state c.lay_down.new.disk) at_rest (c.lay_down.ensures.spares at_rest.tells)
+    (g.met.D.Disk.reads_as c.args.disk.now at_rest.tells) (g.D.Disk.state c.write_slot.new.disk) c.requires.batches c.requires.group c.in_ok-next.next c.in_ok-next.ensures.next c.in_ok-next.ensures.group
+    (c.in_ok-next.ensures.laid at_rest.tells) (c.in_ok-next.ensures.durable at_rest.tells) c.write_slot.ensures.spares c.write_slot.ensures.any_moment
 
 pub returns-clause-done : goal.returns-clause-done
 returns-clause-done g c at_rest =
-    let layout = c.args.layout.now in
-    let table = c.args.table.now in
-    let batches = c.args.batches.now in
-    let t : Group = record { 0 = table.group.0 + 1 } in
-    let old = g.D.Disk.state c.args.disk.now in
-    let mid = g.D.Disk.state c.lay_down.new.disk in
-    let new = g.D.Disk.state c.write_slot.new.disk in
-    let e = c.head_for-head.ensures in
-    let run : Spares (IsSpared (head_of layout) layout.vdevs t) old mid =
-    subst (λ (v : List VdevRow). Spares (IsSpared (head_of layout) v t) old mid) c.requires.store.vdevs
-    (subst (λ (h : Head). Spares (IsSpared h table.vdevs t) old mid) e (c.lay_down.ensures.spares at_rest.tells)) in
-    let reads = g.met.D.Disk.reads_as c.args.disk.now at_rest.tells in
-    let keeps : KeepsWords (bytes_of old) c.head_for-head.result table t =
-    subst (λ (h : Head). KeepsWords (bytes_of old) h table t) (sym e) (keeps_words layout table batches t refl (bytes_of old) (at_rest.each (bytes_of old) reads) c.requires.store.vdevs) in
-    let next = c.in_ok-next.next in
-    let is_next : IsNextGroup (head_of layout) table batches next = subst (λ (h : Head). IsNextGroup h table batches next) e c.in_ok-next.ensures.next in
-    let laid : IsLaid (bytes_of old) (bytes_of mid) (head_of layout) table batches next = subst (λ (h : Head). IsLaid (bytes_of old) (bytes_of mid) h table batches next) e (c.in_ok-next.ensures.laid at_rest.tells keeps) in
-    let flushed = c.in_ok-next.ensures.durable at_rest.tells in
-    let opened = c.write_slot.ensures.spares run.tells in
-    committed layout table batches t refl old mid new at_rest reads c.requires.batches next is_next c.in_ok-next.ensures.group c.requires.group laid run flushed opened
-    (c.in_ok-write_slot.ensures.written run.tells) (c.in_ok-write_slot.ensures.durable run.tells)
+    slot_commits c.args.layout.now c.args.table.now c.args.batches.now c.head_for-head.result c.head_for-head.ensures c.requires.store.vdevs (g.D.Disk.state c.args.disk.now) (g.D.Disk.state c.lay_down.new.disk) at_rest (c.lay_down.ensures.spares at_rest.tells)
+    (g.met.D.Disk.reads_as c.args.disk.now at_rest.tells) (g.D.Disk.state c.write_slot.new.disk) c.requires.batches c.requires.group c.in_ok-next.next c.in_ok-next.ensures.next c.in_ok-next.ensures.group
+    (c.in_ok-next.ensures.laid at_rest.tells) (c.in_ok-next.ensures.durable at_rest.tells) c.write_slot.ensures.spares c.in_ok-write_slot.ensures.written c.in_ok-write_slot.ensures.durable
 
 pub returns-clause-at_rest : goal.returns-clause-at_rest
-returns-clause-at_rest g c at_rest contents found backed =
-    let layout = c.args.layout.now in
-    let table = c.args.table.now in
-    let batches = c.args.batches.now in
-    let t : Group = record { 0 = table.group.0 + 1 } in
-    let old = g.D.Disk.state c.args.disk.now in
-    let mid = g.D.Disk.state c.lay_down.new.disk in
-    let new = g.D.Disk.state c.write_slot.new.disk in
-    let e = c.head_for-head.ensures in
-    let run : Spares (IsSpared (head_of layout) layout.vdevs t) old mid =
-    subst (λ (v : List VdevRow). Spares (IsSpared (head_of layout) v t) old mid) c.requires.store.vdevs
-    (subst (λ (h : Head). Spares (IsSpared h table.vdevs t) old mid) e (c.lay_down.ensures.spares at_rest.tells)) in
-    let reads = g.met.D.Disk.reads_as c.args.disk.now at_rest.tells in
-    let keeps : KeepsWords (bytes_of old) c.head_for-head.result table t =
-    subst (λ (h : Head). KeepsWords (bytes_of old) h table t) (sym e) (keeps_words layout table batches t refl (bytes_of old) (at_rest.each (bytes_of old) reads) c.requires.store.vdevs) in
-    let next = c.in_ok-next.next in
-    let is_next : IsNextGroup (head_of layout) table batches next = subst (λ (h : Head). IsNextGroup h table batches next) e c.in_ok-next.ensures.next in
-    let laid : IsLaid (bytes_of old) (bytes_of mid) (head_of layout) table batches next = subst (λ (h : Head). IsLaid (bytes_of old) (bytes_of mid) h table batches next) e (c.in_ok-next.ensures.laid at_rest.tells keeps) in
-    let flushed = c.in_ok-next.ensures.durable at_rest.tells in
-    let opened = c.write_slot.ensures.spares run.tells in
-    rests_on layout table batches t refl old mid new at_rest reads c.requires.batches next is_next c.in_ok-next.ensures.group c.requires.group laid run flushed opened
-    (c.in_ok-write_slot.ensures.written run.tells) (c.in_ok-write_slot.ensures.durable run.tells) contents found backed
+returns-clause-at_rest g c at_rest =
+    rests_behind_the_slot c.args.layout.now c.args.table.now c.args.batches.now c.head_for-head.result c.head_for-head.ensures c.requires.store.vdevs (g.D.Disk.state c.args.disk.now) (g.D.Disk.state c.lay_down.new.disk) at_rest (c.lay_down.ensures.spares at_rest.tells)
+    (g.met.D.Disk.reads_as c.args.disk.now at_rest.tells) (g.D.Disk.state c.write_slot.new.disk) c.requires.batches c.requires.group c.in_ok-next.next c.in_ok-next.ensures.next c.in_ok-next.ensures.group
+    (c.in_ok-next.ensures.laid at_rest.tells) (c.in_ok-next.ensures.durable at_rest.tells) c.write_slot.ensures.spares c.in_ok-write_slot.ensures.written c.in_ok-write_slot.ensures.durable
 
 pub returns-clause-flushes : goal.returns-clause-flushes
 returns-clause-flushes g c tells =

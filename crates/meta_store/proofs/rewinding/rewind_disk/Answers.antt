@@ -3,8 +3,7 @@ use Rattle.std.specs.Prelude.{OnOk}
 use Rattle.zms_dev.specs.Disk.{bytes_of}
 use Rattle.zms_dev.specs.Runs.{LeavesOnly}
 use Rattle.zms_dev.proofs.Sparing.{still_tells, spares_stays, spares_then}
-use Rattle.uber_ring.proofs.Stages.{on_ok}
-use Rattle.meta_store.specs.Rewinds.{IsRewinding, IsTurnedLast, ClosesOthers, EndsRewound, IsNoGate}
+use Rattle.meta_store.specs.Rewinds.{IsRewinding, IsTurnedLast, IsNoGate}
 use Rattle.meta_store.proofs.LastGroup.{first_flush, no_flush, rewindable}
 use Rattle.meta_store.proofs.RewindEnds.{ends_rewound}
 use Rattle.meta_store.proofs.rewinding.rewind_disk.Goals as goal

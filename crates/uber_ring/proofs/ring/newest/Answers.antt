@@ -1,4 +1,4 @@
-use Rattle.std.proofs.Common.{◌≡◌, ◌%◌, ◌∙◌, ℕ, List, subst, arith}
+use Rattle.std.proofs.Common.{◌≡◌, ◌%◌, ◌∙◌, ℕ, List, subst}
 use Rattle.zms_dev.specs.Disk.{bytes_of}
 use Rattle.zms_dev.proofs.Resting.{rests_then}
 use Rattle.uber_ring.specs.Slots.{IsUber, TheValid}
