@@ -1,7 +1,6 @@
 pub mod Bytes
 pub mod FieldLemmas
 pub mod Once
-pub mod Names
 pub mod Lists
 pub mod Limits
 pub mod Taking

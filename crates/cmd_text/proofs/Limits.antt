@@ -2,7 +2,7 @@
 use Rattle.std.proofs.Common.{Bor, Option, Some, None, ◌≡◌, ℕ, zero, suc, ◌+◌, ◌≤◌, ◌<◌, Bool, true, false, List, [], ◌∷◌, ◌++◌, length, refl, sym, ◌∙◌, ap, subst, arith, inl, length-append, eq-eqb}
 use Rattle.std.specs.Prelude.{◌||◌, ◌&&◌, ◌==◌, slice_get, if◌then◌else◌, max}
 use Rattle.std.specs.List.{count_by, list_any, fold}
-use Rattle.std.specs.BTreeSet.{BTreeSet}
+use Rattle.std.specs.HashSet.{HashSet}
 use Rattle.std.proofs.lemmas.List.{append-nil}
 use Rattle.std.proofs.lemmas.List.Folds.{list_any-append}
 use Rattle.std.proofs.lemmas.Option.{slice_get_within}
@@ -105,7 +105,7 @@ and_false : (a b c : Bool) → b ≡ false → c ≡ ((a && b) || c)
 and_false true b c e = rw e refl
 and_false false b c e = refl
 
-pub nameless_learns : (names : BTreeSet (ℕ × Bor (List ℕ))) (lane : ℕ) (w : What) → IsNameless w → Learns names names lane w
+pub nameless_learns : {S : Type 0} (names : HashSet (ℕ × Bor (List ℕ)) S) (lane : ℕ) (w : What) → IsNameless w → Learns names names lane w
 nameless_learns names lane w is =
     record {
       fresh = λ name named. absurd ((nameless_none w is name).0 named);

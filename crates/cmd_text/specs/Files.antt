@@ -90,16 +90,20 @@ pub record IsFile (text : List ℕ) (script : Script) : Type 0 where
   pub make : make_list script.make ≡ makes_of readings
   pub lanes : script.lanes ≡ lanes_of script.commands script.make
 
--- the first line of a text, from 1, that is outside the grammar or passes a limit: the lines before it are good, and with it they are not
-pub record IsFirstBad (text : List ℕ) (number : ℕ) : Type 0 where
+-- the first line of a text, from 1, that breaks something: the lines before it, and what they say, have it, and with it they do not
+pub record IsFirstBreaking (Has : List (List ℕ) → List Reading → Type 0) (text : List ℕ) (number : ℕ) : Type 0 where
   pub front : List (List ℕ)
   pub line : List ℕ
   pub back : List (List ℕ)
   pub split : front ++ (line ∷ back) ≡ lines_of text
   pub numbered : number ≡ length front + 1
   pub readings : List Reading
-  pub good : AreGood text front readings
-  pub bad : (more : List Reading) → AreGood text (front ++ (line ∷ [])) more → ⊥
+  pub good : Has front readings
+  pub bad : (more : List Reading) → Has (front ++ (line ∷ [])) more → ⊥
+
+-- the first line that is outside the grammar or passes a limit
+abbrev pub IsFirstBad : List ℕ → ℕ → Type 0
+IsFirstBad text number = IsFirstBreaking (AreGood text) text number
 
 -- the script of the lines before the first bad one
 pub record Stops (text : List ℕ) (script : Script) (number : ℕ) : Type 0 where

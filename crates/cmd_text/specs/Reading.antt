@@ -2,7 +2,7 @@
 use Rattle.std.specs.Prelude.{◌≡◌, ℕ, ◌≤◌, Bool, true, false, ◌||◌, ◌&&◌, ◌==◌, ◌⊎◌, ◌++◌, List, [], ◌∷◌, codes, decimal}
 use Rattle.std.specs.List.{list_any, count_by}
 use Rattle.std.specs.Str.{bytes_eq}
-use Rattle.std.specs.BTreeSet.{BTreeSet}
+use Rattle.std.specs.HashSet.{HashSet}
 use Rattle.std.specs.Borrow.{Bor}
 use Rattle.cmd_text.specs.Grammar.{Reading, what_fields, spaced, IsWhat, IsLine, asked, made}
 use Rattle.cmd_text.specs.Grammar.Reading.{Passed, Asked, Made}
@@ -93,7 +93,7 @@ reading_of n (LaneLine lane asks) = Asked (command_of lane n (what_of asks))
 reading_of n (MakeLine number count) = Made (record { number = number; count = count; line = n })
 
 -- is this one of a lane's names?
-abbrev pub has_name : BTreeSet (ℕ × Bor (List ℕ)) → ℕ → List ℕ → Bool
+abbrev pub has_name : {S : Type 0} → HashSet (ℕ × Bor (List ℕ)) S → ℕ → List ℕ → Bool
 has_name names lane name = list_any (λ known. (lane == known.0) && bytes_eq name known.1.now) names.keys
 
 -- does this give its block this name?
@@ -113,12 +113,12 @@ abbrev pub gives_name : ℕ → List ℕ → Command → Bool
 gives_name lane name c = (lane == c.lane) && gives_block name c.what
 
 -- its name is new to the lane, and known from then on
-pub record Learns (old new : BTreeSet (ℕ × Bor (List ℕ))) (lane : ℕ) (w : What) : Type 0 where
+pub record Learns {S : Type 0} (old new : HashSet (ℕ × Bor (List ℕ)) S) (lane : ℕ) (w : What) : Type 0 where
   pub fresh : (name : List ℕ) → IsNamed w name → has_name old lane name ≡ false
   pub known : (l : ℕ) (other : List ℕ) → has_name new l other ≡ (((l == lane) && gives_block other w) || has_name old l other)
 
 -- its name is known to the lane
-pub record IsTwice (names : BTreeSet (ℕ × Bor (List ℕ))) (lane : ℕ) (w : What) : Type 0 where
+pub record IsTwice {S : Type 0} (names : HashSet (ℕ × Bor (List ℕ)) S) (lane : ℕ) (w : What) : Type 0 where
   pub name : List ℕ
   pub named : IsNamed w name
   pub known : has_name names lane name ≡ true

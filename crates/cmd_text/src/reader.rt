@@ -10,7 +10,7 @@ ghost use Rattle.cmd_text.specs.Reading.{what_of, HasNameInText, command_of, has
 use crate::lines::{Asks, Line, read_line};
 use crate::script::{Command, MAKE_LANES, MAX_LINE_BYTES, MAX_WORKERS, Make, Script, What};
 use std::alloc::{AllocError, Global};
-use std::collections::BTreeSet;
+use std::collections::HashSet;
 use zms_units::{Items, MAX_COMMANDS, Text};
 
 /// The commands so far, or the make line, with the greatest lane, the number of worker commands, and the lanes' names.
@@ -20,12 +20,12 @@ pub struct Reader<'a> {
     pub make: Option<Make>,
     pub lanes: u8,
     pub workers: usize,
-    pub names: BTreeSet<(u8, &'a str)>,
+    pub names: HashSet<(u8, &'a str)>,
 }
 
 /// Adds a lane's name, and says whether it is new.
 fn add_name<'a>(
-    names: &mut BTreeSet<(u8, &'a str)>,
+    names: &mut HashSet<(u8, &'a str)>,
     lane: u8,
     name: &'a str,
 ) -> Result<bool, AllocError>
@@ -45,7 +45,7 @@ fn text_of(alloc: Global, name: &str) -> Result<Text, AllocError>
 /// What a lane asks for, whose name is known from then on; none where the lane knows the name.
 fn learn<'a>(
     alloc: Global,
-    names: &mut BTreeSet<(u8, &'a str)>,
+    names: &mut HashSet<(u8, &'a str)>,
     lane: u8,
     asks: Asks<'a>,
 ) -> Result<Option<What>, AllocError>
@@ -102,7 +102,7 @@ impl<'a> Reader<'a> {
             make: None,
             lanes: 1,
             workers: 0,
-            names: BTreeSet::new(alloc),
+            names: HashSet::new(alloc),
         }
     }
 

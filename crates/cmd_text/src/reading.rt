@@ -21,8 +21,8 @@ pub struct Front {
 
 /// Reads a command file up to its first bad line, for who must know what stands before it.
 ///
-/// Takes time linear in the text, but for a search in the lane's names at each alloc, and memory for the commands and for
-/// the places of their names.
+/// Takes time linear in the text, where few names have hashes that meet: the name of each alloc is looked up by its hash,
+/// whose seed is fixed. Takes memory for the commands and for the places of their names.
 pub fn read_front(alloc: Global, text: &[u8]) -> Result<Front, AllocError>
     ensures file { IfOk result (λ front. IfNone front.bad (IsFile text.now front.script)) }
     ensures bad { IfOk result (λ front. IfSome front.bad (Stops text.now front.script)) }

@@ -9,3 +9,4 @@ pub mod Lookback
 pub mod Keeping
 pub mod Bucketing
 pub mod Sparing
+pub mod Searching

@@ -1,5 +1,4 @@
 -- What stays the same of a metaslab while its pool is open.
-use Rattle.std.specs.Prelude.{ℕ}
 use Rattle.zms_units.specs.Segments.{covered}
 use Rattle.ms_model.specs.Origin.{Origin}
 use Rattle.ms_core.specs.State.{MsState}

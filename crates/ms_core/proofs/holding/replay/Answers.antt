@@ -1,7 +1,7 @@
-use Rattle.std.proofs.Common.{◌≡◌, ℕ, ◌<◌, Bool, true, false, cond, Option, None, List, length, get_or, take, refl, sym, ap, ◌∙◌, add-one}
+use Rattle.std.proofs.Common.{◌≡◌, ℕ, Bool, true, false, cond, None, List, take, refl, sym, ap, ◌∙◌, add-one}
 use Rattle.std.proofs.Math.Seq.{take-suc}
 use Rattle.ms_model.proofs.Histories.{held_act, held_act-push}
-use Rattle.ms_core.proofs.Words.{held, is_grant, granted, untouched, Origin, Noted, take_all}
+use Rattle.ms_core.proofs.Words.{held, is_grant, granted, untouched, Noted, take_all}
 use Rattle.ms_core.proofs.holding.replay.Goals as goal
 
 grant_first : (opened : ℕ) (b : Bool) → is_grant (cond b (granted None opened) untouched) ≡ b

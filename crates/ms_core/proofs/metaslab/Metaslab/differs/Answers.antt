@@ -1,4 +1,4 @@
-use Rattle.std.proofs.Common.{◌≡◌, ℕ, List, sym, ap, subst, Result, Ok, Err}
+use Rattle.std.proofs.Common.{ℕ, List, sym, ap, subst, Result, Ok, Err}
 use Rattle.std.specs.Prelude.{IfOk}
 use Rattle.ms_core.proofs.Words.{covered, held, MsState, Noted, origin_of, settled_of, origin_in, book_in}
 use Rattle.ms_core.specs.Differences.{DiffersFirst}
