@@ -25,8 +25,9 @@ use zms_units::{Histogram, Seg};
 ///
 /// `best`, `covers` and `meets` make one descent, `first_from` two, `add` and `remove` at most eight, and `steps` counts
 /// each node that they visit. `largest`, `units`, `nodes` and `histogram` are kept up to date, and visit the root at most.
-/// `swap` exchanges two roots; `clear` and `vacate` go once through the runs that leave, and give each node back before
-/// the next is taken.
+/// `swap` exchanges two roots. `clear` makes two descents for each run that leaves, and `vacate` ten at most, since each
+/// node is given back before the next is taken. `xor_into` makes ten at most for each stretch of its segment that is alike
+/// in both trees: at most one more than twice the runs of both that it meets.
 #[derive(Drop)]
 pub struct RangeTrees {
     pool: SegPool<RunNode>,
