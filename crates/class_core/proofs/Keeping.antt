@@ -1,5 +1,5 @@
 -- A class after one of its groups changed, with a note of it or without.
-use Rattle.std.proofs.Common.{◌≡◌, ◌≢◌, ℕ, zero, suc, ◌+◌, ◌<◌, ◌≤◌, Bool, true, false, cond, eqb, ltb, leb, Option, Some, List, [], ◌∷◌, ◌++◌, length, set, length-set, get_or, get_or-set_same, get_or-set_other, refl, sym, ◌∙◌, ap, subst, ◌⊎◌, inl, inr, arith, le-leb}
+use Rattle.std.proofs.Common.{◌≡◌, ◌≢◌, ℕ, zero, suc, ◌+◌, ◌<◌, ◌≤◌, Bool, true, false, cond, eqb, ltb, leb, Option, Some, None, List, [], ◌∷◌, ◌++◌, length, set, length-set, get_or, get_or-set_same, get_or-set_other, refl, sym, ◌∙◌, ap, subst, ◌⊎◌, inl, inr, arith, le-leb}
 use Rattle.std.specs.Prelude.{map, slice_get, MatchOption, ⊤}
 use Rattle.std.proofs.lemmas.Bool.{cases_lt}
 use Rattle.std.proofs.lemmas.Bool.Decides.{eqb_tells, Decides-ltb}
@@ -15,6 +15,7 @@ use Rattle.class_model.specs.Picks.{IsAnswer}
 use Rattle.class_model.specs.Legal.{IsClassLegal, allocator_of}
 use Rattle.class_model.specs.declared.origin.ClassOrigin.{ClassOrigin}
 use Rattle.class_model.proofs.Journals.{rotor_at-push, legal_push}
+use Rattle.class_model.proofs.Within.{picks_within}
 use Rattle.class_core.specs.Groups.{GroupState, group_at, active_in, place_of, IsPick, Takes}
 use Rattle.class_core.specs.Classes.{got_of, finds_active, pair_of, IsPicked}
 use Rattle.class_core.specs.declared.picked.Picked.{Picked}
@@ -228,6 +229,11 @@ slice_found [] k v e = absurd (none_some v e)
 slice_found (g ∷ groups) zero v e = (omega arith, some_is g.vdev v e)
 slice_found (g ∷ groups) (suc k) v e = let rest = slice_found groups k v e in (omega (arith, rest.0), rest.1)
 
+picked_within : (o : ClassOrigin) (h : List LaneNote) (v : ℕ) (p : Pair) (bytes : ℕ) (start : Start) (picked : Option Picked) → IsClassLegal o h → IsAnswer o h v p bytes start (got_of picked)
+    → MatchOption picked ⊤ (λ x. x.index < metaslabs_of o v)
+picked_within o h v p bytes start None legal answer = tt
+picked_within o h v p bytes start (Some x) legal answer = picks_within o h legal v p bytes start (record { index = x.index; weight = x.weight }) answer
+
 -- what a pick gave is what the journal says
 pub picked_is : (o : ClassOrigin) (h : List LaneNote) (groups : List GroupState) (r : Rotor) (lane place : ℕ) → IsKept o h groups r → place < length groups
     → (vdev bytes : ℕ) (kind : Kind) (start : Start) (got : Option Got) (picked : Option Picked) (was : Bool) → got_of picked ≡ got → MatchOption picked ⊤ (λ p. p.was_active ≡ was)
@@ -236,9 +242,12 @@ pub picked_is : (o : ClassOrigin) (h : List LaneNote) (groups : List GroupState)
 picked_is o h groups r lane place kept lt vdev bytes kind start got picked was gives told is same pick =
     let p : Pair = pair_of lane kind in
     let m : Mirrors o h (group_at groups place) = kept.each place lt in
+    let answer : IsAnswer o h vdev p bytes start (got_of picked) =
+    subst (λ (v : ℕ). IsAnswer o h v p bytes start (got_of picked)) same
+    (subst (λ (x : Option Got). IsAnswer o h (vdev_at groups place) p bytes start x) (sym gives) (picks_answer o h (group_at groups place) m bytes p start got pick)) in
     record {
-      answer = subst (λ (v : ℕ). IsAnswer o h v p bytes start (got_of picked)) same
-          (subst (λ (x : Option Got). IsAnswer o h (vdev_at groups place) p bytes start x) (sym gives) (picks_answer o h (group_at groups place) m bytes p start got pick));
+      answer = answer;
+      within = picked_within o h vdev p bytes start picked kept.legal answer;
       was_active = subst (λ (b : Bool). MatchOption picked ⊤ (λ p. p.was_active ≡ b))
           (is ∙ (ap (finds_active start) (sym (m.active p)) ∙ ap (λ (v : ℕ). finds_active start (active_at h v p)) same)) told;
     }

@@ -42,10 +42,11 @@ finds_active start active = false
 abbrev pub pair_of : ℕ → Kind → Pair
 pair_of lane kind = record { allocator = allocator_of lane; kind = kind }
 
--- what the pick of a lane gives by the journal
+-- what the pick of a lane gives by the journal: a metaslab of the vdev, or none
 pub record IsPicked (s : ClassState) (lane : ℕ) (kind : Kind) (vdev bytes : ℕ) (start : Start) (picked : Option Picked) : Type 0 where
   pub answer : IsAnswer s.origin s.notes vdev (pair_of lane kind) bytes start (got_of picked)
   pub was_active : MatchOption picked ⊤ (λ p. p.was_active ≡ finds_active start (active_at s.notes vdev (pair_of lane kind)))
+  pub within : MatchOption picked ⊤ (λ p. p.index < metaslabs_of s.origin vdev)
 
 -- a vdev of the rows has this class
 abbrev pub HasClass : List VdevRow → Class → ℕ → Type 0

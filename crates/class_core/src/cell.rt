@@ -69,8 +69,8 @@ fn pair_of(lane: u8, kind: Kind) -> usize
         }
 }
 
-/// The allocator of a lane.
-fn allocator(lane: u8) -> u8
+/// The allocator of a lane, one of four, as OpenZFS keeps for `spa_alloc_count`.
+pub fn allocator(lane: u8) -> u8
     requires { IsLane lane }
     ensures value { result ≡ allocator_of lane }
     ensures below { result < 4 }

@@ -22,5 +22,5 @@ mod picked;
 mod ranking;
 mod rotor;
 
-pub use cell::ClassCell;
+pub use cell::{ClassCell, allocator};
 pub use picked::Picked;

@@ -15,7 +15,7 @@ use Rattle.class_model.specs.Legal.{MayNote, IsClassLegal}
 use Rattle.class_model.specs.declared.origin.ClassOrigin.{ClassOrigin}
 use Rattle.class_model.proofs.Journals.{active_at-push, by_legal}
 
-both_of : (a b : Bool) → (a && b) ≡ true → (a ≡ true) × (b ≡ true)
+pub both_of : (a b : Bool) → (a && b) ≡ true → (a ≡ true) × (b ≡ true)
 both_of true b e = (refl, e)
 both_of false b e = cc
 
@@ -61,7 +61,7 @@ cut : (b : Bool) (j i : ℕ) → (if b then None else Some j) ≡ Some i → Som
 cut true j i e = cc
 cut false j i e = e
 
-dropped_less : (b : Bool) (j : ℕ) (x : Option ℕ) (i : ℕ) → (if b then dropped j x else x) ≡ Some i → x ≡ Some i
+pub dropped_less : (b : Bool) (j : ℕ) (x : Option ℕ) (i : ℕ) → (if b then dropped j x else x) ≡ Some i → x ≡ Some i
 dropped_less false j x i e = e
 dropped_less true j None i e = cc
 dropped_less true j (Some k) i e = cut (eqb j k) k i e

@@ -17,6 +17,13 @@ AnswersAreOne = (o : ClassOrigin) (h : List LaneNote) (v : ℕ) (p : Pair) (byte
 abbrev pub MetaslabsHaveOnePair : Type 0
 MetaslabsHaveOnePair = (o : ClassOrigin) (h : List LaneNote) → IsClassLegal o h → (v i : ℕ) (p q : Pair) → active_at h v p ≡ Some i → active_at h v q ≡ Some i → p ≡ q
 
+-- what is active is a metaslab of the vdev, and so is what a pick gives
+abbrev pub ActiveAreMetaslabs : Type 0
+ActiveAreMetaslabs = (o : ClassOrigin) (h : List LaneNote) → IsClassLegal o h → (v i : ℕ) (p : Pair) → active_at h v p ≡ Some i → i < metaslabs_of o v
+
+abbrev pub PicksAreMetaslabs : Type 0
+PicksAreMetaslabs = (o : ClassOrigin) (h : List LaneNote) → IsClassLegal o h → (v : ℕ) (p : Pair) (bytes : ℕ) (start : Start) (g : Got) → IsAnswer o h v p bytes start (Some g) → g.index < metaslabs_of o v
+
 -- the rotor is at a vdev of the class
 abbrev pub RotorsAreVdevs : Type 0
 RotorsAreVdevs = (o : ClassOrigin) (h : List LaneNote) → 0 < length o.vdevs → IsVdevOf o (rotor_at o h).vdev

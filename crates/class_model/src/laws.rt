@@ -1,6 +1,6 @@
 //! Laws of the definitions: each function does nothing, and its contract is the law.
 
-ghost use Rattle.class_model.specs.Laws.{AnswersAreOne, MetaslabsHaveOnePair, RotorsAreVdevs, WalksVisitOnce, BeginningsAreLegal};
+ghost use Rattle.class_model.specs.Laws.{AnswersAreOne, MetaslabsHaveOnePair, ActiveAreMetaslabs, PicksAreMetaslabs, RotorsAreVdevs, WalksVisitOnce, BeginningsAreLegal};
 
 /// A pick has at most one answer.
 pub fn answers_are_one()
@@ -11,6 +11,12 @@ pub fn answers_are_one()
 /// metaslab a vdev is so by definition.
 pub fn metaslabs_have_one_pair()
     ensures { MetaslabsHaveOnePair }
+{}
+
+/// In a legal journal what is active for a pair is a metaslab of the vdev, and so is what a pick gives.
+pub fn picks_are_metaslabs()
+    ensures active { ActiveAreMetaslabs }
+    ensures picks { PicksAreMetaslabs }
 {}
 
 /// The rotor is at a vdev of the class, where it has any.

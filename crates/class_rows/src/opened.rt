@@ -34,7 +34,7 @@ impl Model for Opened {
 }
 
 /// How many metaslabs there are in all.
-fn total(vdevs: &[VdevRow]) -> usize
+pub fn total(vdevs: &[VdevRow]) -> usize
     requires { length vdevs.now ≤ 16 }
     ensures { result ≡ metaslabs_in vdevs.now }
 {
@@ -65,7 +65,7 @@ fn has_metaslab(rows: &[VdevRow], class: Class, id: MsId) -> bool
     has_class(rows, class, id.vdev) && id.index < rows[id.vdev as usize].metaslabs
 }
 
-fn is_lane(lane: u8) -> bool
+pub fn is_lane(lane: u8) -> bool
     ensures { result ≡ true → IsLane lane }
 {
     1 <= lane && lane <= 16

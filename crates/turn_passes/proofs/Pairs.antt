@@ -1,8 +1,8 @@
 -- Lists that change at one place or grow at the end, place by place.
-use Rattle.std.proofs.Common.{◌≡◌, ℕ, zero, suc, ◌+◌, ◌≤◌, ◌<◌, ◌≢◌, List, [], ◌∷◌, ◌++◌, length, get_or, set, drop, refl, sym, ◌∙◌, ap, subst, arith, Option, Some, None, ◌⊎◌, inl, inr, ⊎_elim, eqb, true, false}
+use Rattle.std.proofs.Common.{◌≡◌, ℕ, zero, suc, ◌<◌, ◌≢◌, List, [], ◌∷◌, ◌++◌, length, get_or, set, drop, refl, sym, ◌∙◌, ap, subst, arith, Some, ◌⊎◌, inl, inr, ⊎_elim}
 use Rattle.std.specs.Prelude.{slice_get}
-use Rattle.std.proofs.lemmas.Option.{slice_get_within, slice_get_read}
-use Rattle.turn_passes.specs.Pairs.{Each, EachThird}
+use Rattle.std.proofs.lemmas.Option.{slice_get_read}
+use Rattle.turn_passes.specs.Pairs.{Each}
 
 module _ {A : Type 0} where
   -- what stands in a list after one place was set
@@ -36,6 +36,17 @@ module _ {A : Type 0} where
   pub get_push_last : (xs : List A) (y : A) → slice_get (xs ++ y ∷ []) (length xs) ≡ Some y
   get_push_last [] y = refl
   get_push_last (x ∷ xs) y = get_push_last xs y
+
+  -- each place of a list has an item, and a place that was set has that one
+  pub some_at : (xs : List A) (k : ℕ) → k < length xs → (x : A) × (slice_get xs k ≡ Some x)
+  some_at [] k lt = absurd (omega arith)
+  some_at (x ∷ xs) zero lt = (x, refl)
+  some_at (x ∷ xs) (suc k) lt = some_at xs k (omega arith)
+
+  pub get_set_there : (xs : List A) (k : ℕ) (v : A) → k < length xs → slice_get (set xs k v) k ≡ Some v
+  get_set_there [] k v lt = absurd (omega arith)
+  get_set_there (x ∷ xs) zero v lt = refl
+  get_set_there (x ∷ xs) (suc k) v lt = get_set_there xs k v (omega arith)
 
   -- one place has one item
   pub one_item : (xs : List A) (k : ℕ) (x y : A) → slice_get xs k ≡ Some x → slice_get xs k ≡ Some y → x ≡ y

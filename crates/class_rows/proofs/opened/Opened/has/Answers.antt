@@ -1,7 +1,7 @@
-use Rattle.std.proofs.Common.{◌<◌, List, subst, sym, arith}
+use Rattle.std.proofs.Common.{◌<◌, List, subst, arith}
 use Rattle.zms_units.specs.declared.places.VdevRow.{VdevRow}
 use Rattle.vdev_map.specs.Numbers.{row_at}
-use Rattle.class_model.specs.Replay.{IsVdevOf, IsIn}
+use Rattle.class_model.specs.Replay.{IsIn}
 use Rattle.class_model.specs.declared.origin.ClassOrigin.{ClassOrigin}
 use Rattle.class_core.specs.Classes.{HasClass}
 use Rattle.class_rows.proofs.opened.Opened.has.Goals as goal
