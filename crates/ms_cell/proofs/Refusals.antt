@@ -15,39 +15,14 @@ use Rattle.ms_model.specs.Legal.{IsLegal, IsGrantedBy, IsLowestLacking}
 use Rattle.ms_model.specs.declared.notes.Noted.{Noted}
 use Rattle.ms_model.proofs.Overlaps.{unit_facts}
 use Rattle.ms_core.specs.Buffers.{changed_runs}
+use Rattle.ms_core.proofs.Searching.{Searched, searched}
+use Rattle.ms_core.proofs.Searching.Searched.{lacks, all}
 use Rattle.ms_core.specs.declared.faults.MsFault.{MsFault}
 use Rattle.ms_core.specs.declared.faults.MsFault.TheVariants.{Late, NotLive, NotLoaded, Short}
 use Rattle.ms_cell.specs.declared.answers.CellFault.TheVariants.{Ms}
 use Rattle.ms_cell.specs.Answers.{GiveBackFault, IsGathered, IsShort}
 
--- of each unit of a segment something holds, or it has a lowest unit of which it does not
-data Searched (Has : ℕ → Type 0) (seg : Seg) : Type 0 where
-  lacks : (unit : ℕ) → IsLowestLacking Has seg unit → Searched Has seg
-  all : ((u : ℕ) → Covers seg u → Has u) → Searched Has seg
-
-one_more : (Has : ℕ → Type 0) (start count : ℕ) → Has (start + count) ⊎ (Has (start + count) → ⊥)
-    → (let short : Seg = record { start = start; count = count } in Searched Has short) → (let seg : Seg = record { start = start; count = suc count } in Searched Has seg)
-one_more Has start count test (lacks unit low) = lacks unit (record { inside = (low.inside.0, omega (arith, low.inside.1)); lacks = low.lacks; below = λ u c lt. low.below u (c.0, omega (arith, low.inside.1, lt)) lt })
-one_more Has start count (inr none) (all each) = lacks (start + count) (record { inside = (omega arith, omega arith); lacks = none; below = λ u c lt. each u (c.0, lt) })
-one_more Has start count (inl last) (all each) = all (λ u c. by_place u c (cases_lt u (start + count))) where
-  by_place : (u : ℕ) → (start ≤ u) × (u < start + suc count) → (u < start + count) ⊎ (start + count ≤ u) → Has u
-  by_place u c (inl lt) = each u (c.0, lt)
-  by_place u c (inr ge) = let here : start + count ≡ u = omega (arith, c.1, ge) in subst Has here last
-
-searched : (Has : ℕ → Type 0) → ((u : ℕ) → Has u ⊎ (Has u → ⊥)) → (start count : ℕ) → (let seg : Seg = record { start = start; count = count } in Searched Has seg)
-searched Has test start zero = all (λ u c. absurd (omega (arith, c.0, c.1)))
-searched Has test start (suc count) = one_more Has start count (test (start + count)) (searched Has test start count)
-
--- whether a unit was granted by a group, and whether by this lane in just this one
-
-pub granted_or_not : (t : ℕ) (a : LastAct) → IsGrantedBy t a ⊎ (IsGrantedBy t a → ⊥)
-granted_or_not t (granted lane group) = by_order (cases_lt t group) where
-  by_order : (t < group) ⊎ (group ≤ t) → (group ≤ t) ⊎ ((group ≤ t) → ⊥)
-  by_order (inl lt) = inr (λ le. omega (arith, lt, le))
-  by_order (inr ge) = inl ge
-granted_or_not t (freed group) = inr (λ is. is)
-granted_or_not t taken_back = inr (λ is. is)
-granted_or_not t untouched = inr (λ is. is)
+-- whether a unit was granted by this lane in just this group
 
 same_or_not : (m n : ℕ) → (m ≡ n) ⊎ (m ≡ n → ⊥)
 same_or_not m n = ⊎_elim (λ (t : (eqb m n ≡ true) × (m ≡ n)). inl t.1) (λ (t : (eqb m n ≡ false) × (m ≡ n → ⊥)). inr t.1) (eqb_tells m n)

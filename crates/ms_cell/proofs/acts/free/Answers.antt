@@ -4,7 +4,8 @@ use Rattle.ms_model.specs.Legal.{IsGrantedBy}
 use Rattle.ms_core.specs.State.{MsState, origin_of}
 use Rattle.ms_cell.specs.declared.answers.CellFault.TheVariants.{Ms}
 use Rattle.ms_cell.specs.Answers.{GiveBackFault}
-use Rattle.ms_cell.proofs.Refusals.{refused, granted_or_not}
+use Rattle.ms_core.proofs.Searching.{granted_or_not}
+use Rattle.ms_cell.proofs.Refusals.{refused}
 use Rattle.ms_cell.proofs.acts.free.Goals as goal
 
 pub returns-in-Err-clause-answer : goal.returns-in-Err-clause-answer

@@ -1,0 +1,7 @@
+use Rattle.std.proofs.Common.{◌≤◌}
+use Rattle.txg_gate.specs.Closings.{closings_of}
+use Rattle.ms_cell.specs.Passes.{Seated}
+use Rattle.cell_rows.proofs.lanes.close.Given as goal
+
+abbrev pub invariant-loop : goal.invariant-loop
+invariant-loop g l = Seated l.lane l.cells l.passes × (closings_of l.lane l.passes.gate.seen ≤ closings_of l.lane l.fn.passes.gate.seen)
