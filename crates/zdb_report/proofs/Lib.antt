@@ -1,0 +1,4 @@
+pub mod GapWalk
+pub mod Fragments
+pub mod Showing
+pub mod Telling

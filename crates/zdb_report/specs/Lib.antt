@@ -1,0 +1,5 @@
+pub mod Gaps
+pub mod Fragmentation
+pub mod Texts
+pub mod Stats
+pub mod Faults
