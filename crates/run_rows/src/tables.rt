@@ -33,6 +33,7 @@ fn asked(alloc: Global, text: &str) -> Result<String, AllocError> {
             format!(in alloc; "create {pool} of {units} units")
         }
         (Some(Asked::Run { at }), Some(pool)) => format!(in alloc; "run {pool} at {at:?}"),
+        (Some(Asked::Report { at }), Some(pool)) => format!(in alloc; "report {pool} at {at:?}"),
         (None, None) => String::from_str(alloc, "nothing"),
         _ => String::from_str(alloc, "words and pool differ"),
     }

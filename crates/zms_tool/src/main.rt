@@ -1,6 +1,6 @@
-//! The program over files: `zms create POOL VDEV` and `zms run POOL`. Each device is a file that is opened when it is
-//! first needed and made when it is first written. What a run answers is `zms_top`'s; here it meets the system, whose
-//! failures are counted and told as faults.
+//! The program over files: `zms create POOL VDEV`, `zms run POOL` and `zms report POOL`. Each device is a file that is
+//! opened when it is first needed and made when it is first written, so a report opens its file to read alone. What a call
+//! answers is `zms_top`'s; here it meets the system, whose failures are counted and told as faults.
 //!
 //! `Faults::noted` counts each failed call by one (`count`, `cause`), from 0 on. The forms over files meet the traits
 //! and tell nothing of their bytes. Behind a write that failed nothing more is written to that stream (`FailStop`:

@@ -15,14 +15,15 @@ use Rattle.zms_top.specs.Lines.{AreIntervals}
 use Rattle.zms_top.specs.Runs.{answers_of}
 use Rattle.zms_top.specs.Ends.{any_device, is_device, damage_in, first_of, first_damage, written_status, end_status, text_of, IsReadEnd, IsOpenEnd, IsOrigin, IsCutOff, LanesDid, RunEnds}
 use Rattle.zms_top.specs.Creations.{CreateEnds}
+use Rattle.zms_top.specs.PoolReports.{ReportEnds}
 use Rattle.zms_top.specs.Stored.{IsSingle, IsWhole}
-use Rattle.zms_top.specs.Causes.{Cause, HasFile, HasPool, IsDamage, IsHonestRun, IsHonestCreate, IsDone}
+use Rattle.zms_top.specs.Causes.{Cause, HasFile, HasPool, IsDamage, IsHonestRun, IsHonestReport, IsHonestCreate, IsDone}
 use Rattle.cmd_text.specs.declared.script.Command.{Command}
 use Rattle.zms_top.specs.declared.replies.Answer.{Answer}
 use Rattle.zms_top.specs.declared.replies.Answer.TheVariants.{Granted, NoSpace, BadSize, Done as AnswerDone, NoName, NotLive, Device, Damaged, Suspended}
 use Rattle.zms_top.specs.declared.replies.Reply.{Reply}
 use Rattle.zms_top.specs.declared.words.Asked.{Asked}
-use Rattle.zms_top.specs.declared.words.Asked.TheVariants.{Create, Run}
+use Rattle.zms_top.specs.declared.words.Asked.TheVariants.{Create, Run, Report}
 use Rattle.zms_top.specs.declared.status.RunLists.{RunLists}
 use Rattle.zms_top.specs.declared.status.Status.{Status}
 use Rattle.zms_top.specs.declared.status.Status.TheVariants.{Done, Usage, BadText, ReadFault, WriteFault, DeviceFault, NotAPool, Memory, Found}
@@ -178,16 +179,34 @@ module _ (words : List (List ℕ)) (old new : World) where
   create_cause units _ asks (CreateEnds.memory _ _ _) = Cause.memory
   create_cause units _ asks (CreateEnds.created made _ printed prints) = made_cause units _ printed asks (λ tells. (made tells).none) prints
 
+  pub report_cause : (at : At) (status : Status) → Asks words (Report at) → ReportEnds at old.out new.out old.disk old.faults new.faults status → To status
+  report_cause at _ asks (ReportEnds.unopened cause shows _ _ _) = Cause.unreported at asks cause shows
+  report_cause at _ asks (ReportEnds.device once _) = Cause.device_fault (rose old.faults new.faults once)
+  report_cause at _ asks (ReportEnds.memory _ _) = Cause.memory
+  report_cause at _ asks (ReportEnds.unprinted _ _ _ _ once) = Cause.write_fault (rose old.out.faults new.out.faults once)
+  report_cause at _ asks (ReportEnds.reported layout table opens _ _ _ _) = Cause.reported at asks layout table opens
+
   -- what is left of a call that is no run, by what the words ask for
   pub still_cause : (status : Status) (asked : Option Asked) → IfSome asked (λ a. Asks words a) → IfNone asked (AsksNothing words)
       → ((at : At) → asked ≡ Some (Run at) → ⊥) → (AsksNothing words → status ≡ Usage)
-      → ((units : ℕ) → Asks words (Create units) → CreateEnds units old.out new.out old.disk new.disk old.faults new.faults status) → To status
-  still_cause status None some none other usage create = subst To (sym (usage none)) (Cause.usage none)
-  still_cause status (Some (Run at)) some none other usage create = absurd (other at refl)
-  still_cause status (Some (Create units)) some none other usage create = create_cause units status some (create units some)
+      → ((units : ℕ) → Asks words (Create units) → CreateEnds units old.out new.out old.disk new.disk old.faults new.faults status)
+      → ((at : At) → Asks words (Report at) → ReportEnds at old.out new.out old.disk old.faults new.faults status) → To status
+  still_cause status None some none other usage create report = subst To (sym (usage none)) (Cause.usage none)
+  still_cause status (Some (Run at)) some none other usage create report = absurd (other at refl)
+  still_cause status (Some (Create units)) some none other usage create report = create_cause units status some (create units some)
+  still_cause status (Some (Report at)) some none other usage create report = report_cause at status some (report at some)
 
   run_not_create : (at : At) (units : ℕ) → Asks words (Run at) → Asks words (Create units) → ⊥
   run_not_create at units run create = absurd (let same = asks_once words (Run at) (Create units) run create in cc)
+
+  pub run_not_report : (at other : At) → Asks words (Run at) → Asks words (Report other) → ⊥
+  run_not_report at other run report = absurd (let same = asks_once words (Run at) (Report other) run report in cc)
+
+  create_not_report : (units : ℕ) (at : At) → Asks words (Create units) → Asks words (Report at) → ⊥
+  create_not_report units at create report = absurd (let same = asks_once words (Create units) (Report at) create report in cc)
+
+  one_report : (at other : At) → Asks words (Report at) → Asks words (Report other) → at ≡ other
+  one_report at other one two = let same = asks_once words (Report at) (Report other) one two in cc
 
   same_at : (at other : At) → Asks words (Run at) → Asks words (Run other) → at ≡ other
   same_at at other one two = let same = asks_once words (Run at) (Run other) one two in cc
@@ -212,6 +231,8 @@ module _ (words : List (List ℕ)) (old new : World) where
       absurd (has.other run.units (opens_single (bytes_of old.disk) at run.layout has.layout run.table has.table run.units opens run.vdevs run.single has.opens has.vdevs))
   run_is_done _ (Cause.damaged at asks _ cause _ not_whole) run = absurd (not_whole (subst (λ a. IsWhole old.disk a) (same_at run.at at run.asks asks) run.whole))
   run_is_done _ (Cause.already units asks _ _) run = absurd (run_not_create run.at units run.asks asks)
+  run_is_done _ (Cause.unreported at asks _ _) run = absurd (run_not_report run.at at run.asks asks)
+  run_is_done _ (Cause.reported _ _ _ _ _) run = inl refl
   run_is_done _ (Cause.ran _ _ _ _) run = inl refl
   run_is_done _ (Cause.created _ _ _) run = inl refl
   run_is_done _ Cause.memory run = inr refl
@@ -227,6 +248,26 @@ module _ (words : List (List ℕ)) (old new : World) where
   create_is_done _ (Cause.other_layout at asks _ _) made = absurd (run_not_create at made.units asks made.asks)
   create_is_done _ (Cause.damaged at asks _ _ _ _) made = absurd (run_not_create at made.units asks made.asks)
   create_is_done _ (Cause.already _ _ group has) made = let has = has made.tells in absurd (made.none has.uber has.newest.valid)
+  create_is_done _ (Cause.unreported at asks _ _) made = absurd (create_not_report made.units at made.asks asks)
+  create_is_done _ (Cause.reported _ _ _ _ _) made = inl refl
   create_is_done _ (Cause.ran _ _ _ _) made = inl refl
   create_is_done _ (Cause.created _ _ _) made = inl refl
   create_is_done _ Cause.memory made = inr refl
+
+  pub report_is_done : (status : Status) → To status → IsHonestReport words old new → IsDone status
+  report_is_done _ (Cause.usage none) told = absurd (none (Report told.at) told.asks)
+  report_is_done _ (Cause.read_fault at asks _) told = absurd (run_not_report at told.at asks told.asks)
+  report_is_done _ (Cause.bad_text at asks _ _) told = absurd (run_not_report at told.at asks told.asks)
+  report_is_done _ (Cause.device_fault risen) told = absurd (told.device risen)
+  report_is_done _ (Cause.write_fault risen) told = absurd (told.sink risen)
+  report_is_done _ (Cause.trace_fault at asks _) told = absurd (run_not_report at told.at asks told.asks)
+  report_is_done _ (Cause.unopened at asks _ _ _) told = absurd (run_not_report at told.at asks told.asks)
+  report_is_done _ (Cause.other_layout at asks _ _) told = absurd (run_not_report at told.at asks told.asks)
+  report_is_done _ (Cause.damaged at asks _ _ _ _) told = absurd (run_not_report at told.at asks told.asks)
+  report_is_done _ (Cause.unreported at asks cause shows) told =
+      absurd (opens_no_cause (bytes_of old.disk) at told.layout told.table cause (subst (λ a. Opens (bytes_of old.disk) a told.layout told.table) (one_report told.at at told.asks asks) told.opens) (shows told.tells))
+  report_is_done _ (Cause.already units asks _ _) told = absurd (create_not_report units told.at asks told.asks)
+  report_is_done _ (Cause.ran _ _ _ _) told = inl refl
+  report_is_done _ (Cause.reported _ _ _ _ _) told = inl refl
+  report_is_done _ (Cause.created _ _ _) told = inl refl
+  report_is_done _ Cause.memory told = inr refl

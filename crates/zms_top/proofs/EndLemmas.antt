@@ -38,6 +38,7 @@ use Rattle.zms_top.specs.Reports.{HandsOver, IsReported}
 use Rattle.zms_top.specs.declared.pool.Pool.{Pool}
 use Rattle.cmd_text.specs.declared.script.Command.{Command}
 use Rattle.zms_top.specs.declared.replies.Reply.{Reply}
+use Rattle.ms_model.specs.declared.journals.MsJournal.{MsJournal}
 use Rattle.zms_top.specs.declared.status.RunLists.{RunLists}
 use Rattle.zms_top.specs.declared.status.Status.{Status}
 
@@ -193,6 +194,37 @@ stops_from at layout o h start mid now quiet was = record {
   either c (inl run) = inl (subst (λ (b : List ℕ). IsRewinding was.uber b c) quiet.contents run)
   either c (inr now) = inr now
 
+-- how lanes ended, told from an earlier moment on at which the device had failed as often
+module _ {Was Whole : Type 0} (premise : Whole → Was) (start mid end : DiskState) (low between high : ℕ) (steady : between ≡ low) (input out read left : SourceState) (old_out new_out old_trace new_trace : SinkState)
+    (commands : List Command) (o : Origin) (journal : MsJournal) (journals : Journals) (lists : RunLists) (status : Status) where
+  faults_from : (high ≡ between) ⊎ (high ≡ one_more between) → (high ≡ low) ⊎ (high ≡ one_more low)
+  faults_from (inl same) = inl (same ∙ steady)
+  faults_from (inr more) = inr (more ∙ ap one_more steady)
+
+  pub acts_from : IsCutOff (world input old_out old_trace mid between) (world out new_out new_trace end high) lists status
+      ⊎ LanesDid Was commands (world input old_out old_trace mid between) (world out new_out new_trace end high) o journal journals lists status
+      → IsCutOff (world read old_out old_trace start low) (world left new_out new_trace end high) lists status
+      ⊎ LanesDid Whole commands (world read old_out old_trace start low) (world left new_out new_trace end high) o journal journals lists status
+  acts_from (inl cut) = inl (record { faults = faults_from cut.faults; none = cut.none; status_is = cut.status_is; out = cut.out; trace = cut.trace })
+  acts_from (inr did) = inr (record {
+    each = did.each;
+    kept = did.kept;
+    keeper = did.keeper;
+    backed = did.backed;
+    others = did.others;
+    settled = did.settled;
+    synced = did.synced;
+    intervals = subst (λ (n : ℕ). AreIntervals n high (answers_of lists.replies)) steady did.intervals;
+    tally = did.tally;
+    tally_is = did.tally_is;
+    group = did.group;
+    group_is = did.group_is;
+    written = did.written;
+    writes = did.writes;
+    status_is = did.status_is;
+    undamaged = λ is. did.undamaged (premise is);
+  })
+
 module _ (at : At) (whole : Type 0) (start mid end : DiskState) (low between high : ℕ) (quiet : Tells start → Untouched start mid) (steady : between ≡ low) (premise : IsWhole start at → whole)
     (input out read left : SourceState) (old_out new_out old_trace new_trace : SinkState) (status : Status) (journals : Option Journals) (lists : Option RunLists) where
   -- a rewind that failed over a pool that was opened by reading alone
@@ -209,10 +241,6 @@ module _ (at : At) (whole : Type 0) (start mid end : DiskState) (low between hig
     no_lists = was.no_lists;
   }
 
-  faults_from : (high ≡ between) ⊎ (high ≡ one_more between) → (high ≡ low) ⊎ (high ≡ one_more low)
-  faults_from (inl same) = inl (same ∙ steady)
-  faults_from (inr more) = inr (more ∙ ap one_more steady)
-
   -- and lanes over one
   pub lanes_from : (commands : List Command) (layout : Layout) (o : Origin)
       → LanesEnd whole at commands (world input old_out old_trace mid between) (world out new_out new_trace end high) layout o status journals lists
@@ -224,33 +252,10 @@ module _ (at : At) (whole : Type 0) (start mid end : DiskState) (low between hig
     journals_are = ends.journals_are;
     lists_are = ends.lists_are;
     shipped = ends.shipped;
-    end = end_from ends.end;
+    end = acts_from premise start mid end low between high steady input out read left old_out new_out old_trace new_trace commands o ends.journal ends.some_journals ends.some_lists status ends.end;
     device = λ is. stops_from at layout o ends.journal.notes start mid end (quiet is.tells) (ends.device (premise is));
     spares = λ tells. let same = quiet tells in spared_from (IsBeside layout) start mid end same (ends.spares same.tells);
-  } where
-    end_from : IsCutOff (world input old_out old_trace mid between) (world out new_out new_trace end high) ends.some_lists status
-        ⊎ LanesDid whole commands (world input old_out old_trace mid between) (world out new_out new_trace end high) o ends.journal ends.some_journals ends.some_lists status
-        → IsCutOff (world read old_out old_trace start low) (world left new_out new_trace end high) ends.some_lists status
-        ⊎ LanesDid (IsWhole start at) commands (world read old_out old_trace start low) (world left new_out new_trace end high) o ends.journal ends.some_journals ends.some_lists status
-    end_from (inl cut) = inl (record { faults = faults_from cut.faults; none = cut.none; status_is = cut.status_is; out = cut.out; trace = cut.trace })
-    end_from (inr did) = inr (record {
-      each = did.each;
-      kept = did.kept;
-      keeper = did.keeper;
-      backed = did.backed;
-      others = did.others;
-      settled = did.settled;
-      synced = did.synced;
-      intervals = subst (λ (n : ℕ). AreIntervals n high (answers_of ends.some_lists.replies)) steady did.intervals;
-      tally = did.tally;
-      tally_is = did.tally_is;
-      group = did.group;
-      group_is = did.group_is;
-      written = did.written;
-      writes = did.writes;
-      status_is = did.status_is;
-      undamaged = λ is. did.undamaged (premise is);
-    })
+  }
 
   -- so a run ends whose pool was opened
   pub run_ends : (commands : List Command) (layout : Layout) (o : Origin) → (IsSome read.left → IsFile (text_of read.left) commands) → IsRead read left → IsOrigin at start layout o

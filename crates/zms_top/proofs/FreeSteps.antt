@@ -1,13 +1,12 @@
 -- A free, from what its calls say.
-use Rattle.std.proofs.Common.{◌≡◌, ℕ, ◌+◌, ◌*◌, ◌^◌, ◌<◌, ◌≤◌, Some, None, List, [], ◌∷◌, zero, suc, inl, inr, refl, sym, ◌∙◌, subst, arith}
-use Rattle.std.specs.Prelude.{◌⊎◌, Result, Err, IsOk, true}
-use Rattle.std.proofs.lemmas.Bool.{cases_lt}
+use Rattle.std.proofs.Common.{◌≡◌, ℕ, ◌*◌, ◌^◌, ◌<◌, ◌≤◌, Some, None, List, [], ◌∷◌, refl, sym, ◌∙◌, subst, arith}
+use Rattle.std.specs.Prelude.{Result, Err, IsOk, true}
 use Rattle.std.proofs.lemmas.List.{append-nil}
 use Rattle.zms_units.specs.declared.segments.Group.{Group}
 use Rattle.zms_units.specs.declared.segments.Seg.{Seg}
 use Rattle.zms_units.specs.Segments.{Covers}
 use Rattle.ms_model.specs.Origin.{Origin}
-use Rattle.ms_model.specs.Units.{LastAct, granted, freed, taken_back, untouched, last_act, is_loaded, collected_group}
+use Rattle.ms_model.specs.Units.{last_act, is_loaded, collected_group}
 use Rattle.ms_model.specs.Legal.{IsWithin, IsGrantedBy, IsLowestLacking}
 use Rattle.ms_model.specs.Gates.{open_group}
 use Rattle.ms_model.specs.Steps.{look, noting}
@@ -16,6 +15,8 @@ use Rattle.ms_model.specs.declared.notes.Act.TheVariants.{Free}
 use Rattle.ms_model.specs.declared.notes.Noted.{Noted}
 use Rattle.ms_model.specs.declared.notes.GateNote.{GateNote}
 use Rattle.ms_core.specs.State.{MsState, origin_of, collected_of, StaysButNotes}
+use Rattle.ms_core.proofs.Searching.{Searched, searched, granted_or_not}
+use Rattle.ms_core.proofs.Searching.Searched.{lacks, all}
 use Rattle.ms_core.specs.declared.faults.MsFault.{MsFault}
 use Rattle.ms_core.specs.declared.faults.MsFault.TheVariants.{NotLive as NotLiveFault}
 use Rattle.txg_gate.specs.GateState.{GateState}
@@ -28,33 +29,6 @@ use Rattle.zms_top.specs.Names.{copies_at}
 use Rattle.zms_top.specs.Lines.{AreLoads, Freed, FreeLine, offset_at}
 use Rattle.zms_top.proofs.StepLemmas.{StepLeaves, StepDid, StaysButHolds, step_events, step_did, look_leaves, note_leaves, collected_loads}
 use Rattle.zms_top.proofs.LookLemmas.{loads_loaded}
-
--- of each unit of a segment something holds, or it has a lowest unit of which it does not
-pub data Searched (Has : ℕ → Type 0) (seg : Seg) : Type 0 where
-  lacks : (unit : ℕ) → IsLowestLacking Has seg unit → Searched Has seg
-  all : ((u : ℕ) → Covers seg u → Has u) → Searched Has seg
-
-one_more : (Has : ℕ → Type 0) (start count : ℕ) → Has (start + count) ⊎ (Has (start + count) → ⊥)
-    → (let short : Seg = record { start = start; count = count } in Searched Has short) → (let seg : Seg = record { start = start; count = suc count } in Searched Has seg)
-one_more Has start count test (lacks unit low) = lacks unit (record { inside = (low.inside.0, omega (arith, low.inside.1)); lacks = low.lacks; below = λ u c lt. low.below u (c.0, omega (arith, low.inside.1, lt)) lt })
-one_more Has start count (inr none) (all each) = lacks (start + count) (record { inside = (omega arith, omega arith); lacks = none; below = λ u c lt. each u (c.0, lt) })
-one_more Has start count (inl last) (all each) = all (λ u c. by_place u c (cases_lt u (start + count))) where
-  by_place : (u : ℕ) → (start ≤ u) × (u < start + suc count) → (u < start + count) ⊎ (start + count ≤ u) → Has u
-  by_place u c (inl lt) = each u (c.0, lt)
-  by_place u c (inr ge) = let here : start + count ≡ u = omega (arith, c.1, ge) in subst Has here last
-
-searched : (Has : ℕ → Type 0) → ((u : ℕ) → Has u ⊎ (Has u → ⊥)) → (start count : ℕ) → (let seg : Seg = record { start = start; count = count } in Searched Has seg)
-searched Has test start zero = all (λ u c. absurd (omega (arith, c.0, c.1)))
-searched Has test start (suc count) = one_more Has start count (test (start + count)) (searched Has test start count)
-
-granted_or_not : (t : ℕ) (a : LastAct) → IsGrantedBy t a ⊎ (IsGrantedBy t a → ⊥)
-granted_or_not t (granted lane group) = by_order (cases_lt t group) where
-  by_order : (t < group) ⊎ (group ≤ t) → (group ≤ t) ⊎ ((group ≤ t) → ⊥)
-  by_order (inl lt) = inr (λ le. omega (arith, lt, le))
-  by_order (inr ge) = inl ge
-granted_or_not t (freed group) = inr (λ is. is)
-granted_or_not t taken_back = inr (λ is. is)
-granted_or_not t untouched = inr (λ is. is)
 
 pub search_segment : (o : Origin) (h : List Noted) (t : ℕ) (seg : Seg) → Searched (λ u. IsGrantedBy t (last_act o h u)) seg
 search_segment o h t seg = searched (λ u. IsGrantedBy t (last_act o h u)) (λ u. granted_or_not t (last_act o h u)) seg.start seg.count

@@ -95,11 +95,10 @@ stops text ls rest front r back line split good built unbuilt at =
       split = sym (append_assoc p.before (p.line ∷ p.after) rest) ∙ ap (λ l. l ++ rest) (sym p.whole) ∙ split;
       numbered = at (1 + length p.before) p.line p.is_line ∙ omega arith;
       readings = front;
-      good = subst (AreGood text p.before) same before.1;
-      built = built;
-      bad = λ more good' built'.
-          let one : more ≡ front ++ (r ∷ []) = lines_once 1 (p.before ++ (p.line ∷ [])) more (front ++ (r ∷ [])) good'.read all in
-          unbuilt (subst (λ rs. AreBuilt (commands_of rs) (makes_of rs)) one built');
+      good = record { good = subst (AreGood text p.before) same before.1; built = built };
+      bad = λ more with_it.
+          let one : more ≡ front ++ (r ∷ []) = lines_once 1 (p.before ++ (p.line ∷ [])) more (front ++ (r ∷ [])) with_it.good.read all in
+          unbuilt (subst (λ rs. AreBuilt (commands_of rs) (makes_of rs)) one with_it.built);
     }
 
 -- a command in its reading
@@ -205,12 +204,14 @@ bad_stops text script line s each none =
       split = s.bad.split;
       numbered = s.bad.numbered;
       readings = s.bad.readings;
-      good = s.bad.good;
-      built = record {
-        each = subst (λ cs. AreBuiltBelow cs (length cs)) s.commands each;
-        no_make = sym s.make ∙ ap make_list none;
+      good = record {
+        good = s.bad.good;
+        built = record {
+          each = subst (λ cs. AreBuiltBelow cs (length cs)) s.commands each;
+          no_make = sym s.make ∙ ap make_list none;
+        };
       };
-      bad = λ more good built. s.bad.bad more good;
+      bad = λ more with_it. s.bad.bad more with_it.good;
     }
 
 -- a file that can be run
@@ -243,7 +244,7 @@ file_not_bad text commands line file bad =
     let front : AreBuilt (commands_of p.front) (makes_of p.front) =
     built_before (commands_of p.front) (commands_of p.back) (makes_of p.front) (makes_of p.back)
     (subst (λ l. AreBuilt l (makes_of p.front ++ makes_of p.back)) cs (subst (AreBuilt (commands_of file.text_is.readings)) ms all)) in
-    bad.bad before.0 before.1 (subst (λ ss. AreBuilt (commands_of ss) (makes_of ss)) same front)
+    bad.bad before.0 (record { good = before.1; built = subst (λ ss. AreBuilt (commands_of ss) (makes_of ss)) same front })
 
 -- what was read up to a first bad line, or to the end
 

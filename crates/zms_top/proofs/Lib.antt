@@ -22,4 +22,5 @@ pub mod ShipLemmas
 pub mod EndLemmas
 pub mod Stopping
 pub mod CreateLemmas
+pub mod PoolReporting
 pub mod CauseLemmas

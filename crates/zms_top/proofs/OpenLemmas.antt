@@ -129,7 +129,7 @@ base_found group units runs p layout table at image made single vdevs is_group o
 }
 
 -- words that hold as many units as they should show no damage
-sound_no_damage : (words : List ℕ) (units count : ℕ) (damage : Damage) → HoldUnits words units count → ShowsDamage words units count damage → ⊥
+pub sound_no_damage : (words : List ℕ) (units count : ℕ) (damage : Damage) → HoldUnits words units count → ShowsDamage words units count damage → ⊥
 sound_no_damage words units count (Word fault) sound shows = runs_show_no_fault (Side units) words sound.found fault sound.decodes shows
 sound_no_damage words units count (Counts kept found) sound shows =
     let other = shows.1.0 in

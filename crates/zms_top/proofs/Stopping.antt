@@ -1,5 +1,5 @@
 -- The device of a run at every stop, from the rewind on.
-use Rattle.std.proofs.Common.{◌≡◌, ℕ, ◌≤◌, Option, List, [], ◌∷◌, ◌++◌, ◌⊎◌, inl, inr, refl, sym, ◌∙◌, ap, subst, arith}
+use Rattle.std.proofs.Common.{◌≡◌, ℕ, ◌≤◌, Option, List, [], ◌∷◌, ◌++◌, ◌⊎◌, inl, inr, refl, sym, ◌∙◌, ap, arith}
 use Rattle.std.proofs.lemmas.List.{append_assoc}
 use Rattle.std.proofs.lemmas.List.{append_cancel_left}
 use Rattle.zms_units.specs.declared.segments.Group.{Group}
@@ -9,7 +9,6 @@ use Rattle.ms_model.specs.Legal.{IsLegal}
 use Rattle.ms_model.specs.declared.notes.Noted.{Noted}
 use Rattle.ms_core.specs.State.{origin_of}
 use Rattle.zms_dev.specs.Disk.{DiskState, Tells, bytes_of}
-use Rattle.zms_dev.specs.Causes.{one_more}
 use Rattle.zms_dev.specs.Runs.{LeavesOnly, Spares}
 use Rattle.zms_dev.specs.Stream.{SourceState, SinkState}
 use Rattle.zms_dev.proofs.Sparing.{spares_then, spares_less}
@@ -22,9 +21,7 @@ use Rattle.meta_store.specs.Rewinds.{IsRewinding, EndsRewound, Adds, IsNoGate}
 use Rattle.meta_store.specs.Stores.{IsAtRest, HasStore}
 use Rattle.meta_store.specs.declared.causes.At.{At}
 use Rattle.meta_store.proofs.KeptPlaces.{group_of_table}
-use Rattle.zms_top.specs.Lines.{AreIntervals}
-use Rattle.zms_top.specs.Runs.{answers_of}
-use Rattle.zms_top.specs.Ends.{IsCutOff, LanesDid, LanesEnd}
+use Rattle.zms_top.specs.Ends.{LanesEnd}
 use Rattle.zms_top.specs.World.{world}
 use Rattle.zms_top.specs.Stored.{Remembers, IsBeside, IsAskedAlways, IsAtEveryStop}
 use Rattle.ms_model.specs.declared.journals.Journals.{Journals}
@@ -35,6 +32,7 @@ use Rattle.zms_top.specs.Pools.{IsStoreOf, IsRemembered}
 use Rattle.zms_top.specs.FreshPool.{IsFresh}
 use Rattle.zms_top.specs.Reports.{IsOpenedWhole, LanesLeave}
 use Rattle.zms_top.specs.declared.pool.Pool.{Pool}
+use Rattle.zms_top.proofs.EndLemmas.{acts_from}
 use Rattle.zms_top.proofs.Growing.{grows_rest}
 use Rattle.zms_top.proofs.Remembering.{rewound_remembers, remembers_grown}
 
@@ -170,37 +168,10 @@ module _ (at : At) (p : Pool) (layout : Layout) (table : Table) (fresh : IsFresh
       journals_are = lanes.journals_are;
       lists_are = lanes.lists_are;
       shipped = lanes.shipped;
-      end = end_from lanes.end;
+      end = acts_from remembered start mid end low between high steady input out read left old_out new_out old_trace new_trace commands (origin_of p.metaslab) lanes.journal lanes.some_journals lanes.some_lists status lanes.end;
       device = λ whole.
           let was = remembered whole in
           at_every_stop at p layout table fresh store start mid whole (ended whole) lanes.journal.notes end lanes.shipped.legal (lanes.run was) (lanes.flushes was.tells)
           (after_first whole.opens.uber whole.whole.tells (has whole) (lying whole)) (lanes.left was);
       spares = λ told. spares_then (IsBeside layout) start mid end (spares_less IsNoGate start mid (IsBeside layout) (beside_gates layout) (spared told)) (lanes.spares (tells told));
-    } where
-      faults_from : (high ≡ between) ⊎ (high ≡ one_more between) → (high ≡ low) ⊎ (high ≡ one_more low)
-      faults_from (inl same) = inl (same ∙ steady)
-      faults_from (inr more) = inr (more ∙ ap one_more steady)
-
-      end_from : IsCutOff (world input old_out old_trace mid between) (world out new_out new_trace end high) lanes.some_lists status
-          ⊎ LanesDid (IsRemembered p layout table mid) commands (world input old_out old_trace mid between) (world out new_out new_trace end high) (origin_of p.metaslab) lanes.journal lanes.some_journals lanes.some_lists status
-          → IsCutOff (world read old_out old_trace start low) (world left new_out new_trace end high) lanes.some_lists status
-          ⊎ LanesDid Whole commands (world read old_out old_trace start low) (world left new_out new_trace end high) (origin_of p.metaslab) lanes.journal lanes.some_journals lanes.some_lists status
-      end_from (inl cut) = inl (record { faults = faults_from cut.faults; none = cut.none; status_is = cut.status_is; out = cut.out; trace = cut.trace })
-      end_from (inr did) = inr (record {
-        each = did.each;
-        kept = did.kept;
-        keeper = did.keeper;
-        backed = did.backed;
-        others = did.others;
-        settled = did.settled;
-        synced = did.synced;
-        intervals = subst (λ (n : ℕ). AreIntervals n high (answers_of lanes.some_lists.replies)) steady did.intervals;
-        tally = did.tally;
-        tally_is = did.tally_is;
-        group = did.group;
-        group_is = did.group_is;
-        written = did.written;
-        writes = did.writes;
-        status_is = did.status_is;
-        undamaged = λ whole. did.undamaged (remembered whole);
-      })
+    }

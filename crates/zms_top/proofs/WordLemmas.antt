@@ -8,10 +8,11 @@ use Rattle.std.proofs.lemmas.List.{append_cancel_left, append_cancel_right, take
 use Rattle.std.proofs.lemmas.Fmt.{decimal_injective}
 use Rattle.std.specs.Prelude.{◌⊎◌, IsTrue}
 use Rattle.std.specs.List.{list_all}
+use Rattle.meta_store.specs.declared.causes.At.{At}
 use Rattle.meta_store.specs.declared.causes.At.TheVariants.{Newest, Group as AtGroup}
-use Rattle.zms_top.specs.Words.{is_pool_byte, IsPoolName, spec_text, group_word, ArePoolAndGroup, AsksOf, Asks}
+use Rattle.zms_top.specs.Words.{is_pool_byte, IsPoolName, spec_text, group_word, ArePoolAndGroup, AsksGroup, AsksAt, AsksOf, Asks}
 use Rattle.zms_top.specs.declared.words.Asked.{Asked}
-use Rattle.zms_top.specs.declared.words.Asked.TheVariants.{Create, Run}
+use Rattle.zms_top.specs.declared.words.Asked.TheVariants.{Create, Run, Report}
 
 pub two_words : (words : List (String Global)) (a b : String Global) → 2 ≤ length words → length words < 3 → a ≡ get_or words 0 a → b ≡ get_or words 1 b
     → map string_bytes words ≡ string_bytes a ∷ (string_bytes b ∷ [])
@@ -41,9 +42,6 @@ pub spec_not : (spec behind front : List ℕ) (n : ℕ) → codes "normal:12:" +
 spec_not spec behind front n one two three =
     ap (λ l. codes "normal:12:" ++ (l ++ codes ":1")) three ∙ ap (λ l. codes "normal:12:" ++ l) two ∙ one
 
-pub asks_run : (words : List (List ℕ)) (pool : List ℕ) → IsPoolName pool → words ≡ codes "run" ∷ (pool ∷ []) → Asks words (Run Newest)
-asks_run words pool name is = record { pool = pool; name = name; are = is }
-
 -- an option is no name
 pub option_no_name : (group : ℕ) (name : List ℕ) → IsPoolName name → name ≡ group_word group → ⊥
 option_no_name group name is same =
@@ -63,21 +61,46 @@ one_group one two p q m n np nq first second = by first.either second.either whe
   by (inl a) (inr b) = absurd (option_no_name n p np (sym a.0 ∙ b.0))
   by (inr a) (inl b) = absurd (option_no_name m q nq (sym b.0 ∙ a.0))
 
--- words ask for one thing
-asks_of_once : (words : List (List ℕ)) (p q : List ℕ) (x y : Asked) → IsPoolName p → IsPoolName q → AsksOf p words x → AsksOf q words y → x ≡ y
-asks_of_once words p q (Run Newest) (Run Newest) np nq one two = refl
-asks_of_once words p q (Run Newest) (Run (AtGroup n)) np nq one two = let both : codes "run" ∷ (p ∷ []) ≡ codes "run" ∷ (two.one ∷ (two.two ∷ [])) = sym one ∙ two.words_are in cc
-asks_of_once words p q (Run (AtGroup m)) (Run Newest) np nq one two = let both : codes "run" ∷ (one.one ∷ (one.two ∷ [])) ≡ codes "run" ∷ (q ∷ []) = sym one.words_are ∙ two in cc
-asks_of_once words p q (Run (AtGroup m)) (Run (AtGroup n)) np nq one two =
-    let both : codes "run" ∷ (one.one ∷ (one.two ∷ [])) ≡ codes "run" ∷ (two.one ∷ (two.two ∷ [])) = sym one.words_are ∙ two.words_are in
+-- a command with a group names one group
+same_group : (command : List ℕ) (words : List (List ℕ)) (p q : List ℕ) (m n : ℕ) → IsPoolName p → IsPoolName q → AsksGroup command p words m → AsksGroup command q words n → m ≡ n
+same_group command words p q m n np nq one two =
+    let both : command ∷ (one.one ∷ (one.two ∷ [])) ≡ command ∷ (two.one ∷ (two.two ∷ [])) = sym one.words_are ∙ two.words_are in
     let firsts : two.one ≡ one.one = cc in
     let seconds : two.two ≡ one.two = cc in
-    let same : m.0 ≡ n.0 = one_group one.one one.two p q m.0 n.0 np nq one.are (subst (λ t. ArePoolAndGroup one.one t q n.0) seconds (subst (λ t. ArePoolAndGroup t two.two q n.0) firsts two.are)) in
-    ap (λ (g : ℕ). Run (AtGroup (record { 0 = g }))) same
-asks_of_once words p q (Run Newest) (Create n) np nq one two = let both : codes "run" ∷ (p ∷ []) ≡ codes "create" ∷ (q ∷ (spec_text n ∷ [])) = sym one ∙ two.0 in cc
-asks_of_once words p q (Run (AtGroup m)) (Create n) np nq one two = let both : codes "run" ∷ (one.one ∷ (one.two ∷ [])) ≡ codes "create" ∷ (q ∷ (spec_text n ∷ [])) = sym one.words_are ∙ two.0 in cc
-asks_of_once words p q (Create m) (Run Newest) np nq one two = let both : codes "create" ∷ (p ∷ (spec_text m ∷ [])) ≡ codes "run" ∷ (q ∷ []) = sym one.0 ∙ two in cc
-asks_of_once words p q (Create m) (Run (AtGroup n)) np nq one two = let both : codes "create" ∷ (p ∷ (spec_text m ∷ [])) ≡ codes "run" ∷ (two.one ∷ (two.two ∷ [])) = sym one.0 ∙ two.words_are in cc
+    one_group one.one one.two p q m n np nq one.are (subst (λ t. ArePoolAndGroup one.one t q n) seconds (subst (λ t. ArePoolAndGroup t two.two q n) firsts two.are))
+
+-- a command at a group or at none
+at_once : (command : List ℕ) (words : List (List ℕ)) (p q : List ℕ) (a b : At) → IsPoolName p → IsPoolName q → AsksAt command p words a → AsksAt command q words b → a ≡ b
+at_once command words p q Newest Newest np nq one two = refl
+at_once command words p q Newest (AtGroup n) np nq one two = let both : command ∷ (p ∷ []) ≡ command ∷ (two.one ∷ (two.two ∷ [])) = sym one ∙ two.words_are in cc
+at_once command words p q (AtGroup m) Newest np nq one two = let both : command ∷ (one.one ∷ (one.two ∷ [])) ≡ command ∷ (q ∷ []) = sym one.words_are ∙ two in cc
+at_once command words p q (AtGroup m) (AtGroup n) np nq one two = ap (λ (g : ℕ). AtGroup (record { 0 = g })) (same_group command words p q m.0 n.0 np nq one two)
+
+-- the command stands first
+leads : (command pool : List ℕ) (words : List (List ℕ)) (at : At) → AsksAt command pool words at → get_or words 0 [] ≡ command
+leads command pool words Newest is = ap (λ (w : List (List ℕ)). get_or w 0 []) is
+leads command pool words (AtGroup group) is = ap (λ (w : List (List ℕ)). get_or w 0 []) is.words_are
+
+-- two commands whose second letters differ
+apart : (words : List (List ℕ)) (c d : List ℕ) → get_or words 0 [] ≡ c → get_or words 0 [] ≡ d → get_or c 1 0 ≡ get_or d 1 0
+apart words c d one two = ap (λ (l : List ℕ). get_or l 1 0) (sym one ∙ two)
+
+-- words ask for one thing
+asks_of_once : (words : List (List ℕ)) (p q : List ℕ) (x y : Asked) → IsPoolName p → IsPoolName q → AsksOf p words x → AsksOf q words y → x ≡ y
+asks_of_once words p q (Run a) (Run b) np nq one two = ap Run (at_once (codes "run") words p q a b np nq one two)
+asks_of_once words p q (Report a) (Report b) np nq one two = ap Report (at_once (codes "report") words p q a b np nq one two)
+asks_of_once words p q (Run a) (Report b) np nq one two =
+    let e : 117 ≡ 101 = apart words (codes "run") (codes "report") (leads (codes "run") p words a one) (leads (codes "report") q words b two) in absurd (omega (arith, e))
+asks_of_once words p q (Report a) (Run b) np nq one two =
+    let e : 101 ≡ 117 = apart words (codes "report") (codes "run") (leads (codes "report") p words a one) (leads (codes "run") q words b two) in absurd (omega (arith, e))
+asks_of_once words p q (Run a) (Create n) np nq one two =
+    let e : 117 ≡ 114 = apart words (codes "run") (codes "create") (leads (codes "run") p words a one) (ap (λ (w : List (List ℕ)). get_or w 0 []) two.0) in absurd (omega (arith, e))
+asks_of_once words p q (Create m) (Run b) np nq one two =
+    let e : 114 ≡ 117 = apart words (codes "create") (codes "run") (ap (λ (w : List (List ℕ)). get_or w 0 []) one.0) (leads (codes "run") q words b two) in absurd (omega (arith, e))
+asks_of_once words p q (Report a) (Create n) np nq one two =
+    let e : 101 ≡ 114 = apart words (codes "report") (codes "create") (leads (codes "report") p words a one) (ap (λ (w : List (List ℕ)). get_or w 0 []) two.0) in absurd (omega (arith, e))
+asks_of_once words p q (Create m) (Report b) np nq one two =
+    let e : 114 ≡ 101 = apart words (codes "create") (codes "report") (ap (λ (w : List (List ℕ)). get_or w 0 []) one.0) (leads (codes "report") q words b two) in absurd (omega (arith, e))
 asks_of_once words p q (Create m) (Create n) np nq one two =
     let both : codes "create" ∷ (p ∷ (spec_text m ∷ [])) ≡ codes "create" ∷ (q ∷ (spec_text n ∷ [])) = sym one.0 ∙ two.0 in
     let texts : spec_text m ≡ spec_text n = cc in
@@ -90,6 +113,43 @@ asks_once words x y one two = asks_of_once words one.pool two.pool x y one.name 
 pub only_answer : (words : List (List ℕ)) (r : Option Asked) → IfSome r (λ asked. Asks words asked) → IfNone r ((asked : Asked) → Asks words asked → ⊥) → (asked : Asked) → Asks words asked → r ≡ Some asked
 only_answer words None some none asked asks = absurd (none asked asks)
 only_answer words (Some x) some none asked asks = ap Some (asks_once words x asked some asks)
+
+-- the name is the third word, where the second is none
+second_is : (words : List (String Global)) (command pool : List ℕ) (rest : List (List ℕ)) (second : String Global) → map string_bytes words ≡ command ∷ (pool ∷ rest) → second ≡ get_or words 1 second → string_bytes second ≡ pool
+second_is [] command pool rest second are is = cc
+second_is (x ∷ []) command pool rest second are is = cc
+second_is (x ∷ (y ∷ ws)) command pool rest second are is = let behind : string_bytes y ∷ map string_bytes ws ≡ pool ∷ rest = cc in let here : string_bytes y ≡ pool = cc in ap string_bytes is ∙ here
+
+third_is : (words : List (String Global)) (command one two : List ℕ) (third : String Global) → map string_bytes words ≡ command ∷ (one ∷ (two ∷ [])) → third ≡ get_or words 2 third → string_bytes third ≡ two
+third_is [] command one two third are is = cc
+third_is (x ∷ []) command one two third are is = cc
+third_is (x ∷ (y ∷ [])) command one two third are is = cc
+third_is (x ∷ (y ∷ (z ∷ ws))) command one two third are is =
+    let behind : string_bytes y ∷ (string_bytes z ∷ map string_bytes ws) ≡ one ∷ (two ∷ []) = cc in
+    let last : string_bytes z ∷ map string_bytes ws ≡ two ∷ [] = cc in
+    let here : string_bytes z ≡ two = cc in ap string_bytes is ∙ here
+
+named_at : (words : List (String Global)) (second third : String Global) (command pool : List ℕ) (at : At) → second ≡ get_or words 1 second → third ≡ get_or words 2 third → IsPoolName pool
+    → AsksAt command pool (map string_bytes words) at → (IsPoolName (string_bytes second) → ⊥) → string_bytes third ≡ pool
+named_at words second third command pool Newest one two name are other =
+    absurd (other (subst IsPoolName (sym (second_is words command pool [] second are one)) name))
+named_at words second third command pool (AtGroup group) one two name are other = by are.are.either where
+  by : ((are.one ≡ pool) × (are.two ≡ group_word group.0)) ⊎ ((are.one ≡ group_word group.0) × (are.two ≡ pool)) → string_bytes third ≡ pool
+  by (inl a) = absurd (other (subst IsPoolName (sym (second_is words command are.one (are.two ∷ []) second are.words_are one ∙ a.0)) name))
+  by (inr a) = third_is words command are.one are.two third are.words_are two ∙ a.1
+
+third_named : (words : List (String Global)) (second third : String Global) (asked : Asked) → second ≡ get_or words 1 second → third ≡ get_or words 2 third → (asks : Asks (map string_bytes words) asked)
+    → (IsPoolName (string_bytes second) → ⊥) → string_bytes third ≡ asks.pool
+third_named words second third (Create units) one two asks other =
+    absurd (other (subst IsPoolName (sym (second_is words (codes "create") asks.pool (spec_text units ∷ []) second asks.are.0 one)) asks.name))
+third_named words second third (Run at) one two asks other = named_at words second third (codes "run") asks.pool at one two asks.name asks.are other
+third_named words second third (Report at) one two asks other = named_at words second third (codes "report") asks.pool at one two asks.name asks.are other
+
+pub name_is_third : (words : List (String Global)) (second third : String Global) (asked : Asked) → second ≡ get_or words 1 second → third ≡ get_or words 2 third → Asks (map string_bytes words) asked
+    → (IsPoolName (string_bytes second) → ⊥) → IsPoolName (string_bytes third) × ((x : Asked) × AsksOf (string_bytes third) (map string_bytes words) x)
+name_is_third words second third asked one two asks other =
+    let is = third_named words second third asked one two asks other in
+    (subst IsPoolName (sym is) asks.name, (asked, subst (λ (n : List ℕ). AsksOf n (map string_bytes words) asked) (sym is) asks.are))
 
 -- what stands behind a text, and before one
 

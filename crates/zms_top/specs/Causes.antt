@@ -18,7 +18,7 @@ use Rattle.zms_top.specs.Stored.{IsSingle, IsWhole}
 use Rattle.zms_top.specs.Ends.{text_of, HasOtherLayout, IsOrigin}
 use Rattle.ms_model.specs.Origin.{Origin}
 use Rattle.cmd_text.specs.declared.script.Command.{Command}
-use Rattle.zms_top.specs.declared.words.Asked.TheVariants.{Create, Run}
+use Rattle.zms_top.specs.declared.words.Asked.TheVariants.{Create, Run, Report}
 use Rattle.zms_top.specs.declared.status.Status.{Status}
 use Rattle.zms_top.specs.declared.status.Status.TheVariants.{Done, Usage, BadText, ReadFault, WriteFault, DeviceFault, NotAPool, Memory}
 use Rattle.zms_top.specs.declared.status.PoolCause.TheVariants.{Open, OtherLayout, AlreadyPool}
@@ -59,10 +59,14 @@ pub data Cause (words : List (List ℕ)) (old new : World) : Status → Type 0 w
   other_layout : (at : At) → Asks words (Run at) → HasFile old.input.left → (Tells old.disk → HasOtherLayout (bytes_of old.disk) at) → Cause words old new (NotAPool OtherLayout)
   -- a run whose sync read damage, which comes of no device that is whole
   damaged : (at : At) → Asks words (Run at) → HasFile old.input.left → (cause : OpenCause) → IsDamage cause → (IsWhole old.disk at → ⊥) → Cause words old new (NotAPool (Open cause))
+  -- a report over a device that shows why it does not open
+  unreported : (at : At) → Asks words (Report at) → (cause : OpenCause) → (Tells old.disk → Shows (bytes_of old.disk) at cause) → Cause words old new (NotAPool (Open cause))
   -- a creation over a device with a pool, whose newest group is told
   already : (units : ℕ) → Asks words (Create units) → (group : Group) → (Tells old.disk → HasNewest (bytes_of old.disk) group.0) → Cause words old new (NotAPool (AlreadyPool group))
   -- a run to its end
   ran : (at : At) → Asks words (Run at) → HasFile old.input.left → HasPool old.disk at → Cause words old new Done
+  -- a report of a device that opens
+  reported : (at : At) → Asks words (Report at) → (layout : Layout) (table : Table) → (Tells old.disk → Opens (bytes_of old.disk) at layout table) → Cause words old new Done
   -- a pool that was created
   created : (units : ℕ) → Asks words (Create units) → (Tells old.disk → HasNone (bytes_of old.disk)) → Cause words old new Done
   -- want of memory, of which nothing is said
@@ -86,6 +90,18 @@ pub record IsHonestRun (words : List (List ℕ)) (old new : World) : Type 0 wher
   pub source : Rose old.input.faults new.input.faults → ⊥
   pub sink : Rose old.out.faults new.out.faults → ⊥
   pub trace : Rose old.trace.faults new.trace.faults → ⊥
+  pub device : Rose old.faults new.faults → ⊥
+
+-- a report that nothing stands in the way of: a device that tells and opens at what is asked for, with whatever layout, and
+-- no fault
+pub record IsHonestReport (words : List (List ℕ)) (old new : World) : Type 0 where
+  pub at : At
+  pub asks : Asks words (Report at)
+  pub tells : Tells old.disk
+  pub layout : Layout
+  pub table : Table
+  pub opens : Opens (bytes_of old.disk) at layout table
+  pub sink : Rose old.out.faults new.out.faults → ⊥
   pub device : Rose old.faults new.faults → ⊥
 
 -- a creation that nothing stands in the way of: a device that tells and has no valid slot, and no fault

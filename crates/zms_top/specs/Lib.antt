@@ -13,6 +13,7 @@ pub mod Pools
 pub mod Runs
 pub mod Ends
 pub mod Creations
+pub mod PoolReports
 pub mod FreshPool
 pub mod Reports
 pub mod Causes

@@ -1,10 +1,10 @@
 -- The command files that are run today: each line is in the grammar, and of a kind that is built.
-use Rattle.std.specs.Prelude.{◌≡◌, ℕ, ◌+◌, ◌<◌, ◌≤◌, Some, None, List, [], ◌∷◌, ◌++◌, length, slice_get}
+use Rattle.std.specs.Prelude.{◌≡◌, ℕ, ◌<◌, ◌≤◌, Some, None, List, [], length, slice_get}
 use Rattle.std.specs.List.{All}
 use Rattle.zms_units.specs.Limits.{MAX_COMMANDS}
 use Rattle.zms_units.specs.declared.places.Class.TheVariants.{Normal}
 use Rattle.cmd_text.specs.Grammar.{Reading, commands_of, makes_of}
-use Rattle.cmd_text.specs.Files.{lines_of, AreGood, IsFile as IsText}
+use Rattle.cmd_text.specs.Files.{AreGood, IsFirstBreaking, IsFile as IsText}
 use Rattle.cmd_text.specs.declared.script.What.{What}
 use Rattle.cmd_text.specs.declared.script.What.TheVariants.{Alloc, Free, FreeSeg, Sync, Load, Unload, Init, Trim, AutoTrim}
 use Rattle.cmd_text.specs.declared.script.Command.{Command}
@@ -50,17 +50,14 @@ pub record IsFile (text : List ℕ) (commands : List Command) : Type 0 where
   pub no_make : script.make ≡ None
   pub are : AreCommands commands
 
--- the first line of a text, from 1, that is outside the grammar, passes a limit, or is of a kind that is not built
-pub record IsFirstBad (text : List ℕ) (number : ℕ) : Type 0 where
-  pub front : List (List ℕ)
-  pub line : List ℕ
-  pub back : List (List ℕ)
-  pub split : front ++ (line ∷ back) ≡ lines_of text
-  pub numbered : number ≡ length front + 1
-  pub readings : List Reading
-  pub good : AreGood text front readings
+-- lines are good, and what they say can be run
+pub record AreRunnable (text : List ℕ) (lines : List (List ℕ)) (readings : List Reading) : Type 0 where
+  pub good : AreGood text lines readings
   pub built : AreBuilt (commands_of readings) (makes_of readings)
-  pub bad : (more : List Reading) → AreGood text (front ++ (line ∷ [])) more → AreBuilt (commands_of more) (makes_of more) → ⊥
+
+-- the first line of a text, from 1, that is outside the grammar, passes a limit, or is of a kind that is not built
+abbrev pub IsFirstBad : List ℕ → ℕ → Type 0
+IsFirstBad text number = IsFirstBreaking (AreRunnable text) text number
 
 -- the line of the first command that can't be run
 pub record IsFirstUnbuilt (commands : List Command) (line : ℕ) : Type 0 where

@@ -3,9 +3,10 @@ use Rattle.std.specs.Prelude.{◌≡◌, ℕ, ◌<◌, ◌≤◌, Bool, ◌==◌
 use Rattle.zms_units.specs.Limits.{IsUnitCount}
 use Rattle.std.specs.List.{list_all}
 use Rattle.cmd_text.specs.Words.{is_lowercase, is_digit}
+use Rattle.meta_store.specs.declared.causes.At.{At}
 use Rattle.meta_store.specs.declared.causes.At.TheVariants.{Newest, Group as AtGroup}
 use Rattle.zms_top.specs.declared.words.Asked.{Asked}
-use Rattle.zms_top.specs.declared.words.Asked.TheVariants.{Create, Run}
+use Rattle.zms_top.specs.declared.words.Asked.TheVariants.{Create, Run, Report}
 
 -- a to z, 0 to 9, `_`, `.` and `/`
 abbrev pub is_pool_byte : ℕ → Bool
@@ -30,18 +31,23 @@ pub record ArePoolAndGroup (one two name : List ℕ) (group : ℕ) : Type 0 wher
   pub short : group < 10 ^ 19
   pub either : ((one ≡ name) × (two ≡ group_word group)) ⊎ ((one ≡ group_word group) × (two ≡ name))
 
--- a run of this name at this group: the option stands anywhere behind the command
-pub record AsksGroup (name : List ℕ) (words : List (List ℕ)) (group : ℕ) : Type 0 where
+-- a command over this name at this group: the option stands anywhere behind the command
+pub record AsksGroup (command name : List ℕ) (words : List (List ℕ)) (group : ℕ) : Type 0 where
   pub one : List ℕ
   pub two : List ℕ
-  pub words_are : words ≡ codes "run" ∷ one ∷ two ∷ []
+  pub words_are : words ≡ command ∷ one ∷ two ∷ []
   pub are : ArePoolAndGroup one two name group
+
+-- a command over this name at what is asked for: alone, or with the option
+abbrev pub AsksAt : List ℕ → List ℕ → List (List ℕ) → At → Type 0
+AsksAt command pool words Newest = words ≡ command ∷ pool ∷ []
+AsksAt command pool words (AtGroup group) = AsksGroup command pool words group.0
 
 -- what the words ask for of the pool of a name
 abbrev pub AsksOf : List ℕ → List (List ℕ) → Asked → Type 0
 AsksOf pool words (Create units) = (words ≡ codes "create" ∷ pool ∷ spec_text units ∷ []) × (IsUnitCount units)
-AsksOf pool words (Run Newest) = words ≡ codes "run" ∷ pool ∷ []
-AsksOf pool words (Run (AtGroup group)) = AsksGroup pool words group.0
+AsksOf pool words (Run at) = AsksAt (codes "run") pool words at
+AsksOf pool words (Report at) = AsksAt (codes "report") pool words at
 
 -- the words ask for this
 pub record Asks (words : List (List ℕ)) (asked : Asked) : Type 0 where

@@ -17,7 +17,7 @@ use crate::blocks::add_block;
 use crate::look::look;
 use crate::pool::{ASHIFT, Pool};
 use std::alloc::{AllocError, Global};
-use std::collections::BTreeMap;
+use std::collections::HashMap;
 use zms_units::{Class, Copies, Dva, Seg, bytes_of, units_of};
 
 /// Where a segment of the pool's one metaslab lies.
@@ -38,7 +38,7 @@ fn place_of(seg: Seg) -> Dva
 pub(crate) fn alloc<'a>(
     alloc: Global,
     pool: &mut Pool,
-    blocks: &mut BTreeMap<&'a str, Seg>,
+    blocks: &mut HashMap<&'a str, Seg>,
     lane: u8,
     name: &'a str,
     size: u64,

@@ -5,11 +5,11 @@ ghost use Rattle.std.specs.Str.{bytes_eq};
 ghost use Rattle.zms_top.specs.Names.{seg_named};
 
 use std::alloc::AllocError;
-use std::collections::BTreeMap;
+use std::collections::HashMap;
 use zms_units::Seg;
 
 /// The segment of the block of this name, if the lane has one.
-pub(crate) fn find_block(blocks: &BTreeMap<&str, Seg>, name: &str) -> Option<Seg>
+pub(crate) fn find_block(blocks: &HashMap<&str, Seg>, name: &str) -> Option<Seg>
     ensures { result ≡ seg_named blocks.now name.now }
 {
     blocks.get(name).copied()
@@ -17,7 +17,7 @@ pub(crate) fn find_block(blocks: &BTreeMap<&str, Seg>, name: &str) -> Option<Seg
 
 /// Makes a block known by its name.
 pub(crate) fn add_block<'a>(
-    blocks: &mut BTreeMap<&'a str, Seg>,
+    blocks: &mut HashMap<&'a str, Seg>,
     name: &'a str,
     seg: Seg,
 ) -> Result<(), AllocError>

@@ -28,7 +28,7 @@ use crate::{Answer, Reply};
 use cmd_text::{Command, What};
 use meta_store::MetaStore;
 use std::alloc::{AllocError, Global};
-use std::collections::BTreeMap;
+use std::collections::HashMap;
 use zms_dev::{Disk, Meet};
 use zms_units::Seg;
 
@@ -37,7 +37,7 @@ fn run_command<'a, D: Disk>(
     alloc_from: Global,
     pool: &mut Pool,
     store: &mut MetaStore<D>,
-    blocks: &mut BTreeMap<&'a str, Seg>,
+    blocks: &mut HashMap<&'a str, Seg>,
     lane: u8,
     what: &'a What,
 ) -> Result<Answer, AllocError>
@@ -101,7 +101,7 @@ pub(crate) fn run_lane<D: Disk, M: Meet>(
     ensures gate { pool.new.gate.opened ≡ pool.old.gate.opened }
 {
     let mut replies = Vec::with_capacity(alloc, commands.len())?;
-    let mut blocks = BTreeMap::new(alloc);
+    let mut blocks = HashMap::new(alloc);
     for command in commands {
         meet.here(command.lane);
         let answer = run_command(alloc, pool, store, &mut blocks, command.lane, &command.what)?;

@@ -1,4 +1,4 @@
-//! The calls of the program: a pool is created, and a run's commands are answered over it.
+//! The calls of the program: a pool is created, reported, and a run's commands are answered over it.
 //!
 //! What a call promises is the contract of `zms`: how it ends, each way with its cause (`specs/Causes.antt`), and for
 //! a run that each reply is backed by the journals of the metaslab and of the gate, that both are legal, that what
@@ -23,6 +23,7 @@ mod lane;
 mod look;
 mod output;
 mod pool;
+mod pool_report;
 mod refusals;
 mod replies;
 mod report;

@@ -101,7 +101,7 @@ fn assemble(alloc: Global, group: Group, units: u32, runs: Vec<Seg>) -> Result<P
 }
 
 /// Why a pool was not opened.
-fn open_status(fault: OpenFault) -> Status
+pub(crate) fn open_status(fault: OpenFault) -> Status
     ensures { result ≡ status_of_open fault }
 {
     match fault {

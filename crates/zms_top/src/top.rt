@@ -2,18 +2,22 @@
 
 ghost use Rattle.std.specs.Prelude.{◌≡◌, ℕ, ◌+◌, ◌^◌, ◌<◌, ◌≤◌, ◌↔◌, List, length, map, string_bytes, None, IfOk};
 ghost use Rattle.zms_units.specs.Limits.{MAX_UNITS};
+ghost use Rattle.zms_dev.specs.Disk.{Tells};
+ghost use Rattle.zms_dev.specs.Runs.{Untouched};
 ghost use Rattle.vdev_map.specs.Limits.{IsLayout};
 ghost use Rattle.meta_store.specs.declared.causes.At.{At};
 ghost use Rattle.zms_top.specs.Words.{Asks, AsksNothing};
-ghost use Rattle.zms_top.specs.Causes.{Cause, IsHonestRun, IsHonestCreate, IsDone};
+ghost use Rattle.zms_top.specs.Causes.{Cause, IsHonestRun, IsHonestReport, IsHonestCreate, IsDone};
 ghost use Rattle.zms_top.specs.World.{world};
 ghost use Rattle.zms_top.specs.Creations.{created_layout, refused_status, IsAnnounced, CreateEnds};
 ghost use Rattle.zms_top.specs.Ends.{IsOfText, RunEnds};
-ghost use Rattle.zms_top.specs.declared.words.Asked.TheVariants.{Create, Run};
+ghost use Rattle.zms_top.specs.PoolReports.{ReportEnds};
+ghost use Rattle.zms_top.specs.declared.words.Asked.TheVariants.{Create, Run, Report};
 ghost use Rattle.zms_top.specs.declared.status.Status.TheVariants.{Usage};
 
 use crate::output::write_created;
 use crate::pool::ASHIFT;
+use crate::pool_report::report;
 use crate::run::run;
 use crate::status::{PoolCause, Shipped, Status};
 use crate::words::{Asked, read_words};
@@ -90,8 +94,9 @@ fn create<K: Sink, D: Disk>(alloc: Global, out: &mut K, disk: D, units: u32) -> 
     }
 }
 
-/// The calls that run no lanes: it creates a pool, waits for nobody, and always returns. It answers `Usage` where the
-/// words are outside the grammar, and for a run.
+/// The calls that run no lanes: it creates a pool or reports one, waits for nobody, and always returns. It answers `Usage`
+/// where the words are outside the grammar, and for a run. A report only reads the device: the opened group is not made the
+/// only one.
 ///
 /// Linear in the units of the pool.
 pub fn zms_still<K: Sink, D: Disk>(
@@ -103,9 +108,12 @@ pub fn zms_still<K: Sink, D: Disk>(
     ensures usage { AsksNothing (map string_bytes words.now) → (result.0 ≡ Usage) × ((K.state out.new ≡ K.state out.old) × (result.1 ≡ meta)) }
     ensures run { (at : At) → Asks (map string_bytes words.now) (Run at) → (result.0 ≡ Usage) × ((K.state out.new ≡ K.state out.old) × (result.1 ≡ meta)) }
     ensures create { (units : ℕ) → Asks (map string_bytes words.now) (Create units) → CreateEnds units (K.state out.old) (K.state out.new) (D.state meta) (D.state result.1) (D.faults meta) (D.faults result.1) result.0 }
+    ensures report { (at : At) → Asks (map string_bytes words.now) (Report at) → ReportEnds at (K.state out.old) (K.state out.new) (D.state meta) (D.faults meta) (D.faults result.1) result.0 }
+    ensures rests { (at : At) → Asks (map string_bytes words.now) (Report at) → Tells (D.state meta) → Untouched (D.state meta) (D.state result.1) }
 {
     match read_words(words) {
         Some(Asked::Create { units }) => create(alloc, out, meta, units),
+        Some(Asked::Report { at }) => report(alloc, out, meta, at),
         Some(Asked::Run { .. }) => (Status::Usage, meta),
         None => (Status::Usage, meta),
     }
@@ -138,9 +146,12 @@ where
     requires { length devices.items ≡ 16 }
     ensures run { (at : At) → Asks (map string_bytes words.now) (Run at) → RunEnds at (world (S.state input.old) (K.state out.old) (T.state trace.old) (D.state meta) (D.faults meta)) (world (S.state input.new) (K.state out.new) (T.state trace.new) (D.state result.meta) (D.faults result.meta)) result.status result.journals result.lists }
     ensures create { (units : ℕ) → Asks (map string_bytes words.now) (Create units) → CreateEnds units (K.state out.old) (K.state out.new) (D.state meta) (D.state result.meta) (D.faults meta) (D.faults result.meta) result.status }
+    ensures report { (at : At) → Asks (map string_bytes words.now) (Report at) → ReportEnds at (K.state out.old) (K.state out.new) (D.state meta) (D.faults meta) (D.faults result.meta) result.status }
+    ensures rests { (at : At) → Asks (map string_bytes words.now) (Report at) → Tells (D.state meta) → Untouched (D.state meta) (D.state result.meta) }
     ensures usage { AsksNothing (map string_bytes words.now) → (result.status ≡ Usage) × ((K.state out.new ≡ K.state out.old) × (result.meta ≡ meta)) }
     ensures cause { Cause (map string_bytes words.now) (world (S.state input.old) (K.state out.old) (T.state trace.old) (D.state meta) (D.faults meta)) (world (S.state input.new) (K.state out.new) (T.state trace.new) (D.state result.meta) (D.faults result.meta)) result.status }
     ensures complete_run { IsHonestRun (map string_bytes words.now) (world (S.state input.old) (K.state out.old) (T.state trace.old) (D.state meta) (D.faults meta)) (world (S.state input.new) (K.state out.new) (T.state trace.new) (D.state result.meta) (D.faults result.meta)) → IsDone result.status }
+    ensures complete_report { IsHonestReport (map string_bytes words.now) (world (S.state input.old) (K.state out.old) (T.state trace.old) (D.state meta) (D.faults meta)) (world (S.state input.new) (K.state out.new) (T.state trace.new) (D.state result.meta) (D.faults result.meta)) → IsDone result.status }
     ensures complete_create { IsHonestCreate (map string_bytes words.now) (world (S.state input.old) (K.state out.old) (T.state trace.old) (D.state meta) (D.faults meta)) (world (S.state input.new) (K.state out.new) (T.state trace.new) (D.state result.meta) (D.faults result.meta)) → IsDone result.status }
     ensures unread { IsOfText result.status → result.meta ≡ meta }
     ensures input { ((at : At) → Asks (map string_bytes words.now) (Run at) → ⊥) → (input.new ≡ input.old) × ((result.journals ≡ None) × (result.lists ≡ None)) }

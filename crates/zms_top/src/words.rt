@@ -17,6 +17,8 @@ pub enum Asked {
     Create { units: u32 },
     /// A run of a command file over the pool as it is at this group.
     Run { at: At },
+    /// The report of the pool as it is at this group.
+    Report { at: At },
 }
 
 /// What stands behind `head`, where the text begins with it.
@@ -103,6 +105,12 @@ fn read_three(command: &str, one: &[u8], two: &[u8]) -> Option<Asked>
             at: At::Group(Group(group)),
         });
     }
+    if command == "report" {
+        let group = group_among(one, two)?;
+        return Some(Asked::Report {
+            at: At::Group(Group(group)),
+        });
+    }
     if command != "create" || !is_pool_name(one) {
         return None;
     }
@@ -110,21 +118,33 @@ fn read_three(command: &str, one: &[u8], two: &[u8]) -> Option<Asked>
     Some(Asked::Create { units })
 }
 
+/// What a command and one word behind it ask for.
+fn read_two(command: &str, pool: &[u8]) -> Option<Asked>
+    ensures asks { IfSome result (λ asked. Asks (command.now ∷ pool.now ∷ []) asked) }
+    ensures nothing { IfNone result (AsksNothing (command.now ∷ pool.now ∷ [])) }
+{
+    if !is_pool_name(pool) {
+        return None;
+    }
+    if command == "run" {
+        return Some(Asked::Run { at: At::Newest });
+    }
+    if command == "report" {
+        return Some(Asked::Report { at: At::Newest });
+    }
+    None
+}
+
 /// What the words of the command line ask for; none exactly where they are outside the grammar: `create POOL
-/// normal:12:UNITS:1`, or `run POOL`, which may have one option `--group=G` in front of the pool or behind it.
+/// normal:12:UNITS:1`, or `run POOL` or `report POOL`, which may have one option `--group=G` in front of the pool or behind
+/// it.
 pub fn read_words(words: &[String]) -> Option<Asked>
     ensures asks { IfSome result (λ asked. Asks (map string_bytes words.now) asked) }
     ensures nothing { IfNone result (AsksNothing (map string_bytes words.now)) }
     ensures only { (asked : Asked) → Asks (map string_bytes words.now) asked → result ≡ Some asked }
 {
     match words {
-        [command, pool] => {
-            if command.as_str() == "run" && is_pool_name(pool.as_bytes()) {
-                Some(Asked::Run { at: At::Newest })
-            } else {
-                None
-            }
-        }
+        [command, pool] => read_two(command.as_str(), pool.as_bytes()),
         [command, one, two] => read_three(command.as_str(), one.as_bytes(), two.as_bytes()),
         _ => None,
     }

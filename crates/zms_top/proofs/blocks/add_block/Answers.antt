@@ -1,6 +1,6 @@
 use Rattle.std.specs.Prelude.{Some}
-use Rattle.std.proofs.lemmas.Map.Text.{btree_map_updates_str}
+use Rattle.std.proofs.lemmas.Map.Text.{hash_map_updates_str}
 use Rattle.zms_top.proofs.blocks.add_block.Goals as goal
 
 pub returns : goal.returns
-returns c = λ other. btree_map_updates_str c.args.name.now c.args.blocks.now c.insert.new.self (Some c.args.seg) c.in_ok-insert.ensures.updates other
+returns c = λ other. hash_map_updates_str c.args.name.now c.args.blocks.now c.insert.new.self (Some c.args.seg) c.in_ok-insert.ensures.updates other

@@ -1,6 +1,7 @@
 use Rattle.std.proofs.Common.{◌≡◌, subst}
 use Rattle.zms_top.specs.Creations.{CreateEnds}
-use Rattle.zms_top.specs.declared.words.Asked.TheVariants.{Create}
+use Rattle.zms_top.specs.PoolReports.{ReportEnds}
+use Rattle.zms_top.specs.declared.words.Asked.TheVariants.{Create, Report}
 use Rattle.zms_top.proofs.top.zms_still.Goals as goal
 
 pub returns-in-Some-Create-clause-create : goal.returns-in-Some-Create-clause-create
@@ -13,3 +14,17 @@ returns-in-Some-Create-clause-create g c = λ units asks.
 
 pub returns-in-None-clause-create : goal.returns-in-None-clause-create
 returns-in-None-clause-create g c = λ units asks. absurd (c.in-None.ensures.nothing (Create units) asks)
+
+pub returns-in-Some-Report-clause-report : goal.returns-in-Some-Report-clause-report
+returns-in-Some-Report-clause-report g c = λ at asks.
+    let is = c.read_words.ensures.only (Report at) asks in
+    let same : c.in-Some-Report.at ≡ at = cc in
+    subst
+    (λ a. ReportEnds a (g.K.Sink.state c.args.out.now) (g.K.Sink.state c.report.new.out) (g.D.Disk.state c.args.meta) (g.D.Disk.faults c.args.meta) (g.D.Disk.faults c.report.result.1) c.report.result.0)
+    same c.report.ensures.ends
+
+pub returns-in-None-clause-report : goal.returns-in-None-clause-report
+returns-in-None-clause-report g c = λ at asks. absurd (c.in-None.ensures.nothing (Report at) asks)
+
+pub returns-in-None-clause-rests : goal.returns-in-None-clause-rests
+returns-in-None-clause-rests g c = λ at asks. absurd (c.in-None.ensures.nothing (Report at) asks)
