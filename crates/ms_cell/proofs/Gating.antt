@@ -1,6 +1,6 @@
 -- One turn at the gate: what happens there happens at no metaslab, and what a holder that has seen a beginning of the gate's
 -- journal knows of its groups.
-use Rattle.std.proofs.Common.{◌≡◌, ℕ, ◌+◌, ◌≤◌, ◌<◌, true, false, Bool, leb, ⊎_elim, cond, List, [], ◌∷◌, ◌++◌, refl, sym, ap, ◌∙◌, subst, arith, Option, Some, None}
+use Rattle.std.proofs.Common.{◌≡◌, ℕ, ◌+◌, ◌≤◌, ◌<◌, ◌^◌, true, false, Bool, leb, ⊎_elim, cond, List, [], ◌∷◌, ◌++◌, refl, sym, ap, ◌∙◌, subst, arith, Option, Some, None}
 use Rattle.std.specs.Prelude.{◌==◌, ◌↔◌, IsTrue, IfSome}
 use Rattle.std.specs.List.{fold}
 use Rattle.std.proofs.lemmas.Bool.Decides.{leb_tells}
@@ -145,15 +145,16 @@ may_close group opens synced o s is open_is synced_is near ne = (
       (leb_tells (opens + 1) (synced + 3)),
 )
 
-pub quiesced_so : (opened : ℕ) (group : Group) (quiesced : Bool) (g : GateState) → g.opened ≡ opened → synced_of g < open_of g → IsTrue quiesced ↔ IsQuiesced g group.0
+pub quiesced_so : (opened : ℕ) (group : Group) (quiesced : Bool) (g : GateState) → g.opened ≡ opened → synced_of g < open_of g → open_of g < 2 ^ 50 → IsTrue quiesced ↔ IsQuiesced g group.0
     → QuiescedAnswer opened group quiesced g.notes None
-quiesced_so opened group quiesced g is ahead answer = record {
+quiesced_so opened group quiesced g is ahead small answer = record {
   quiet = refl;
   gate = g;
   opened_is = is;
   notes = refl;
   answer = answer;
   closed = λ yes. subst (λ (o : ℕ). group.0 < open_group o g.notes) is (answer.0 yes).0;
+  small = λ yes. omega (arith, small, (answer.0 yes).0);
   settled = λ le.
       let low : group.0 ≤ synced_of g = subst (λ (o : ℕ). group.0 ≤ synced_group o g.notes) (sym is) le in
       answer.1 (omega (arith, low, ahead), λ k under. holds_settled g k (omega (arith, low)));

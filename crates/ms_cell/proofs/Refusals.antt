@@ -74,6 +74,7 @@ pub gathered : (group : Group) (allocs frees : List Seg) (o : Origin) (h : List 
 gathered group allocs frees o h legal some gained given =
     let next : (group.0 - 1) + 1 ≡ group.0 = omega arith in
     record {
+      legal = legal;
       gained = gained;
       given = given;
       holds = λ u lt.

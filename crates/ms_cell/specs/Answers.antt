@@ -10,7 +10,7 @@ use Rattle.ms_model.specs.Units.{granted, held, last_act, is_loaded, settled_gro
 use Rattle.ms_model.specs.Spaces.{is_vacant}
 use Rattle.ms_model.specs.Counts.{live_units, deferred_units, vacant_units}
 use Rattle.ms_model.specs.Gains.{is_gained, is_given}
-use Rattle.ms_model.specs.Legal.{IsGrantedBy, IsLowestLacking, MayDo, MayGrant, MayMiss, MayShut, MayFree, MayTakeBack}
+use Rattle.ms_model.specs.Legal.{IsGrantedBy, IsLegal, IsLowestLacking, MayDo, MayGrant, MayMiss, MayShut, MayFree, MayTakeBack}
 use Rattle.ms_model.specs.Laws.{IsFreeOfAll}
 use Rattle.ms_model.specs.declared.notes.Act.{Act}
 use Rattle.ms_model.specs.declared.notes.Act.TheVariants.{Grant, Free, Unalloc, Miss as MissAct, Shut as ShutAct, Collect, Settle, Load}
@@ -78,8 +78,9 @@ abbrev pub UnallocAnswer : ℕ → Group → Seg → Result (Unit {0}) CellFault
 UnallocAnswer lane group seg (Ok _) o h added = Notes lane (Unalloc group seg) added × MayTakeBack o h lane group.0 seg
 UnallocAnswer lane group seg (Err fault) o h added = (added ≡ None) × GiveBackFault group (λ u. last_act o h u ≡ granted (Some lane) group.0) seg fault o h
 
--- what a group gained and gave back, as maximal runs; and the group holds what the one before it held, changed by these runs
+-- what a group gained and gave back in a legal journal, as maximal runs; and the group holds what the one before it held, changed by these runs
 pub record IsGathered (group : Group) (allocs frees : List Seg) (o : Origin) (h : List Noted) : Type 0 where
+  pub legal : IsLegal o h
   pub gained : AreMaximalRuns (is_gained group.0 h) o.units allocs
   pub given : AreMaximalRuns (is_given group.0 h) o.units frees
   pub holds : (u : ℕ) → u < o.units → held o h group.0 u ≡ (not (covered frees u) && (covered allocs u || held o h (group.0 - 1) u))
@@ -105,7 +106,7 @@ pub record IsLoad (lane : ℕ) (segs : List Seg) (o : Origin) (h : List Noted) (
 
 abbrev pub LoadAnswer : {E : Type 0} → ℕ → List Seg → Result (Option ℕ) E → Origin → List Noted → Option Noted → Type 0
 LoadAnswer lane segs (Ok None) o h added = IsLoad lane segs o h added
-LoadAnswer lane segs (Ok (Some unit)) o h added = (added ≡ None) × IsLowestDifference (covered segs) (held o h (settled_group o h)) o.units unit
+LoadAnswer lane segs (Ok (Some unit)) o h added = (added ≡ None) × (IsLegal o h × IsLowestDifference (covered segs) (held o h (settled_group o h)) o.units unit)
 LoadAnswer lane segs (Err _) o h added = added ≡ None
 
 -- the totals and the weight of the journal, and nothing is noted

@@ -1,5 +1,5 @@
 -- What a call at the gate answers and notes, by the journal that its turn found.
-use Rattle.std.specs.Prelude.{◌≡◌, ◌↔◌, ℕ, ◌+◌, ◌<◌, ◌≤◌, Bool, IsTrue, Option, Some, None, List, Result, Ok, Err}
+use Rattle.std.specs.Prelude.{◌≡◌, ◌↔◌, ℕ, ◌+◌, ◌^◌, ◌<◌, ◌≤◌, Bool, IsTrue, Option, Some, None, List, Result, Ok, Err}
 use Rattle.zms_units.specs.declared.segments.Group.{Group}
 use Rattle.turn_cell.specs.Notes.{IsPrefix}
 use Rattle.ms_model.specs.Gates.{open_group, synced_group, MayPass}
@@ -38,4 +38,5 @@ pub record QuiescedAnswer (opened : ℕ) (group : Group) (quiesced : Bool) (h : 
   pub notes : gate.notes ≡ h
   pub answer : IsTrue quiesced ↔ IsQuiesced gate group.0
   pub closed : IsTrue quiesced → group.0 < open_group opened h
+  pub small : IsTrue quiesced → group.0 + 1 < 2 ^ 50
   pub settled : group.0 ≤ synced_group opened h → IsTrue quiesced

@@ -140,6 +140,8 @@ pub(crate) fn load<R: SegTrees>(
     ensures stands { standing_of metaslab.new ≡ standing_of metaslab.old }
     ensures own { IfSome result.1 (λ n. right_of n ≡ 0) }
 {
+    // The journal so far is legal.
+    let _ = metaslab.settled();
     match metaslab.differs(held) {
         Ok(None) => {}
         other => return (other, None),

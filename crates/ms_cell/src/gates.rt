@@ -88,8 +88,8 @@ pub fn quiesced_at<R: SegTrees, W: Wait>(
 {
     let held = cells.gate.take(rt, &mut passes.gate);
     let gate = held.value();
-    // The open group is above the settled one.
-    let _ = gate.synced();
+    // The open group is above the settled one, and small.
+    let _ = (gate.synced(), gate.open_group());
     let quiesced = gate.quiesced(group);
     cells.gate.give(held, &mut passes.gate, None);
     quiesced

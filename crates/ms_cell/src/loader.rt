@@ -26,6 +26,7 @@ pub enum LoadFault {
 /// Loads metaslabs, and keeps how often it refused to and why.
 pub trait Loader<R: SegTrees> {
     ghost use Rattle.ms_cell.specs.declared.loader.LoadFault.{LoadFault};
+    ghost use Rattle.ms_cell.specs.Turns.{Turns};
 
     /// How many load refusals it gave, which stands still at the greatest `u64`.
     ghost refusals: { Self → ℕ };
@@ -35,6 +36,11 @@ pub trait Loader<R: SegTrees> {
 
     /// A state comes after another by loads.
     ghost follows: { Self → Self → Type 0 };
+
+    /// It loads for this lane, at these cells.
+    ghost serves: { Self → ℕ → Turns → Type 0 };
+
+    ghost serves_along: { (first : Self) (second : Self) (lane : ℕ) (cells : Turns) → serves first lane cells → follows first second → serves second lane cells };
 
     ghost follows_itself: { (state : Self) → follows state state };
 
@@ -53,6 +59,7 @@ pub trait Loader<R: SegTrees> {
         requires lane { IsLane lane }
         requires id { IsIn cells.now.vdevs id }
         requires seated { Seated lane cells.now passes.old }
+        requires serves { serves self.old lane cells.now }
         ensures passes { Journey lane [] passes.old passes.new }
         ensures follows { follows self.old self.new }
         ensures counts { Counts result (refusals self.old) (last self.old) (refusals self.new) (last self.new) }
