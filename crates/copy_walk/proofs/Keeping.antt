@@ -3,6 +3,7 @@ use Rattle.std.proofs.Common.{◌≡◌, ℕ, ◌+◌, ◌-◌, ◌<◌, ◌≤�
 use Rattle.std.specs.Prelude.{◌||◌, ◌&&◌, slice_get, MatchOption, ⊤}
 use Rattle.std.proofs.lemmas.Bool.{cases_lt, lt-ltb, le-ltb}
 use Rattle.std.proofs.lemmas.List.{length_push}
+use Rattle.std.proofs.lemmas.List.Sums.{count_by-le-length}
 use Rattle.std.proofs.lemmas.Option.{slice_get_within}
 use Rattle.zms_units.specs.declared.places.MsId.{MsId}
 use Rattle.vdev_map.specs.Numbers.{IsIn, number_of}
@@ -303,3 +304,7 @@ module _ (w old : WalkState) (same : w ≡ old) (sound : IsSound w) where
 
   pub looked_from : (steps : List Step) → WasTold old steps → marked w.marks ≡ length (failed steps)
   looked_from steps = subst (λ (o : WalkState). WasTold o steps → marked w.marks ≡ length (failed steps)) same (λ told. sym told.count)
+
+-- a pool has at most 1024 metaslabs
+pub few_marked : (w : WalkState) (n : ℕ) → IsSound w → n ≡ marked w.marks → n ≤ 1024
+few_marked w n sound is = omega (arith, is, count_by-le-length (λ (mark : Bool). mark) w.marks, sound.size)

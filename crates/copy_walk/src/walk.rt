@@ -1,5 +1,5 @@
 //! A walk and its calls.
-ghost use Rattle.std.specs.Prelude.{◌≡◌, ◌+◌, ◌<◌, [], List, length};
+ghost use Rattle.std.specs.Prelude.{◌≡◌, ◌+◌, ◌<◌, ◌≤◌, [], List, length};
 ghost use Rattle.ms_model.specs.declared.notes.Start.TheVariants.{Active};
 ghost use Rattle.copy_walk.specs.Plans.{plan_of, IsPlan};
 ghost use Rattle.copy_walk.specs.Steps.{Step, start_behind, start_from, failed};
@@ -111,7 +111,8 @@ impl Walk {
 
     /// How many metaslabs looks failed at, each counted once. It costs the same whatever the pool is.
     pub fn looked(&self) -> u64
-        ensures { (steps : List Step) → WasTold self.now steps → result ≡ length (failed steps) }
+        ensures count { (steps : List Step) → WasTold self.now steps → result ≡ length (failed steps) }
+        ensures few { result ≤ 1024 }
     {
         self.marks.count()
     }

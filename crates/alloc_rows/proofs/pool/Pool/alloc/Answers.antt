@@ -1,0 +1,5 @@
+use Rattle.alloc_rows.proofs.Resting.{rests_behind}
+use Rattle.alloc_rows.proofs.pool.Pool.alloc.Goals as goal
+
+pub invariant_of-self : goal.invariant_of-self
+invariant_of-self g c = rests_behind _ _ _ _ _ _ _ _ _ _ _ _ _ c.self.invariant c.alloc.ensures.acted c.alloc.ensures.follows

@@ -1,0 +1,9 @@
+pub mod Freeing
+pub mod Granting
+pub mod Looking
+pub mod Searching
+pub mod SegPlaces
+pub mod Stepping
+pub mod TakingBack
+pub mod Turning
+pub mod Walking

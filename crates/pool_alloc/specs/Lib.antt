@@ -1,0 +1,12 @@
+pub mod Asks
+pub mod Looks
+pub mod Posts
+pub mod Walks
+pub mod Places
+pub mod Undoing
+pub mod Allocs
+pub mod Cuts
+pub mod Undone
+pub mod Ends
+pub mod Frees
+pub mod Loads

@@ -1,0 +1,13 @@
+pub mod History
+pub mod Images
+pub mod Groups
+pub mod Notes
+pub mod Keeper
+pub mod Answers
+pub mod Commits
+pub mod Laws
+pub mod Lines
+pub mod Serving
+pub mod ServingLaws
+pub mod Syncs
+pub mod SyncParts
