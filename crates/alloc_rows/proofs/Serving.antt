@@ -1,9 +1,8 @@
 -- The loader serves on behind what it does.
-use Rattle.std.proofs.Common.{◌≡◌, ℕ, ◌<◌, Bool, true, false, [], length, refl, ap, ◌∙◌, arith}
-use Rattle.ms_model.specs.Events.{Event}
+use Rattle.std.proofs.Common.{◌≡◌, Bool, [], ap, ◌∙◌, arith}
 use Rattle.ms_model.specs.Units.{collected_group}
 use Rattle.ms_cell.specs.Turns.{Turns, origin_from}
-use Rattle.ms_cell.specs.Passes.{Passes, Seated, AreFresh, fixed_of, seen_of, origin_in, seen_in}
+use Rattle.ms_cell.specs.Passes.{Passes, AreFresh, fixed_of, seen_of, origin_in, seen_in}
 use Rattle.ms_cell.proofs.Gathering.{fresh_seated}
 use Rattle.ms_cell.proofs.Lifting.{some_at}
 use Rattle.alloc_rows.specs.Serving.{AreUncollected, IsServing, Keeps}
