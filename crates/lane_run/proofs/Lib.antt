@@ -1,0 +1,9 @@
+pub mod Closings
+pub mod AllocClosings
+pub mod FreeClosings
+pub mod SyncClosings
+pub mod Acting
+pub mod Seeing
+pub mod Telling
+pub mod Naming
+pub mod Running
