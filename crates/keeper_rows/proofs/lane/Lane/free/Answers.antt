@@ -1,0 +1,5 @@
+use Rattle.keeper_rows.proofs.AtWork.{works_at}
+use Rattle.keeper_rows.proofs.lane.Lane.free.Goals as goal
+
+pub invariant_of-self : goal.invariant_of-self
+invariant_of-self g c = works_at c.self.inside.cells.now c.self.inside.classes.now c.self.inside.closed c.self.inside.keeper c.self.inside.passes c.self.invariant _ _ c.free_at.new.passes c.free_at.ensures
