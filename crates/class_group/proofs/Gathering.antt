@@ -6,7 +6,7 @@ use Rattle.turn_passes.specs.Pairs.{Each, EachThird}
 use Rattle.turn_passes.proofs.Pairs.{some_at}
 use Rattle.turn_passes.proofs.Parts.{ready_fresh, idle_ready, idle_rest, idle_joined}
 use Rattle.class_group.specs.Turns.{ClassTurns}
-use Rattle.class_group.specs.Passes.{ClassKnown, right_of, KnowAll, Seated, AreIdle, AreFresh, AreRests, HaveAll}
+use Rattle.class_group.specs.Passes.{ClassKnown, right_of, KnowAll, Seated, AreIdle, AreFresh, AreRests, StandAlike, HaveAll}
 
 -- passes that know the same fixed parts
 pub know_along : (t : ClassTurns) (p q : List ClassKnown) → KnowAll t p → length p ≡ length q → Each (λ k c d. d.fixed ≡ c.fixed) p q → KnowAll t q
@@ -39,6 +39,17 @@ module _ (t : ClassTurns) (p q r : List ClassKnown) (first : AreIdle t p) (secon
   other : length q ≡ length p
   other = sym second.know.count ∙ first.know.count
 
+  pub joined_alike : StandAlike r p
+  joined_alike = record {
+    count = size;
+    each = record {
+      at = λ k c e x y.
+          let lt = slice_get_within p k c x in
+          let d = some_at q k (omega (arith, other)) in
+          (each.at k c d.0 e x d.1 y).fixed;
+    };
+  }
+
   pub joined_idle : AreIdle t r
   joined_idle = record {
     each = record {
@@ -48,12 +59,7 @@ module _ (t : ClassTurns) (p q r : List ClassKnown) (first : AreIdle t p) (secon
           let d = some_at q k (omega (arith, size, other)) in
           idle_joined turn c.0 d.0 e (first.each.at k turn c.0 x c.1) (each.at k c.0 d.0 e c.1 d.1 y);
     };
-    know = know_along t p r first.know (sym size) (record {
-      at = λ k c e x y.
-          let lt = slice_get_within p k c x in
-          let d = some_at q k (omega (arith, other)) in
-          (each.at k c d.0 e x d.1 y).fixed;
-    });
+    know = know_along t p r first.know (sym size) joined_alike.each;
   }
 
   pub joined_first : HaveAll r p

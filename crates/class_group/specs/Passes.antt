@@ -64,6 +64,11 @@ pub record AreRests (right : ℕ) (t : ClassTurns) (p : List ClassKnown) : Type 
   pub each : Each (λ k turn c. IsRest right turn c) t.cells p
   pub know : KnowAll t p
 
+-- passes stand for what others do, class by class
+pub record StandAlike (q p : List ClassKnown) : Type 0 where
+  pub count : length q ≡ length p
+  pub each : Each (λ k c d. d.fixed ≡ c.fixed) p q
+
 -- passes have all that others had
 abbrev pub HaveAll : List ClassKnown → List ClassKnown → Type 0
 HaveAll q p = Each (λ k c d. Has d c) p q

@@ -3,7 +3,7 @@ ghost use Rattle.std.specs.Prelude.{◌≡◌, ℕ, ◌+◌, ◌≤◌, [], IfOk
 ghost use Rattle.turn_cell.specs.Notes.{IsPrefix};
 ghost use Rattle.turn_cell.specs.declared.kept.TheConstants.{MAX_RIGHT};
 ghost use Rattle.class_group.specs.Turns.{place_of};
-ghost use Rattle.class_group.specs.Passes.{Seated, AreIdle, AreFresh, AreRests, HaveAll, seen_in};
+ghost use Rattle.class_group.specs.Passes.{Seated, AreIdle, AreFresh, AreRests, StandAlike, HaveAll, seen_in};
 ghost use Rattle.class_group.specs.Journey.{Journey};
 
 use crate::classes::{ClassPasses, Classes};
@@ -23,6 +23,8 @@ pub fn next_classes(
     requires rest { AreRests right classes.now rest.old }
     ensures rest { OnOk result (AreRests (right + 1) classes.now rest.new) }
     ensures fresh { IfOk result (λ passes. AreFresh right classes.now passes) }
+    ensures same { OnOk result (StandAlike rest.new rest.old) }
+    ensures alike { IfOk result (λ passes. StandAlike passes rest.old) }
     ensures err { OnErr result (rest.new ≡ rest.old) }
 {
     let cells = next_passes(alloc, &classes.cells, &mut rest.cells, right)?;
@@ -34,6 +36,7 @@ pub fn join_classes(classes: &Classes, first: &mut ClassPasses, second: ClassPas
     requires first { AreIdle classes.now first.old }
     requires second { AreIdle classes.now second }
     ensures idle { AreIdle classes.now first.new }
+    ensures alike { StandAlike first.new first.old }
     ensures first { HaveAll first.new first.old }
     ensures second { HaveAll first.new second }
 {

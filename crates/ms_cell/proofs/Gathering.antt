@@ -7,7 +7,7 @@ use Rattle.turn_passes.specs.Pairs.{Each, EachThird}
 use Rattle.turn_passes.proofs.Parts.{ready_fresh, idle_ready, idle_rest, idle_joined}
 use Rattle.ms_model.specs.Parts.{right_of, gate_right}
 use Rattle.ms_cell.specs.Turns.{Turns}
-use Rattle.ms_cell.specs.Passes.{Passes, KnowAll, Seated, AreIdle, AreFresh, AreRests, HaveAll}
+use Rattle.ms_cell.specs.Passes.{Passes, KnowAll, Seated, AreIdle, AreFresh, AreRests, StandAlike, HaveAll}
 use Rattle.ms_cell.proofs.Lifting.{some_at}
 
 -- passes that know the same fixed parts
@@ -57,6 +57,18 @@ pub record JoinedAll (p q r : Passes) : Type 0 where
   pub other : length q.metaslabs ≡ length p.metaslabs
   pub each : EachThird (λ k c d e. Joined c d e) p.metaslabs q.metaslabs r.metaslabs
 
+pub joined_alike : (p q r : Passes) → JoinedAll p q r → StandAlike r p
+joined_alike p q r j = record {
+  gate = j.gate.fixed;
+  count = j.size;
+  each = record {
+    at = λ k c e x y.
+        let lt = slice_get_within p.metaslabs k c x in
+        let d = some_at q.metaslabs k (omega (arith, j.other)) in
+        (j.each.at k c d.0 e x d.1 y).fixed;
+  };
+}
+
 pub joined_idle : (t : Turns) (p q r : Passes) → AreIdle t p → JoinedAll p q r → AreIdle t r
 joined_idle t p q r i j = record {
   gate = idle_joined t.gate p.gate q.gate r.gate i.gate j.gate;
@@ -67,12 +79,7 @@ joined_idle t p q r i j = record {
         let d = some_at q.metaslabs k (omega (arith, j.size, j.other)) in
         idle_joined turn c.0 d.0 e (i.each.at k turn c.0 x c.1) (j.each.at k c.0 d.0 e c.1 d.1 y);
   };
-  know = know_along t p r i.know j.gate.fixed (sym j.size) (record {
-    at = λ k c e x y.
-        let lt = slice_get_within p.metaslabs k c x in
-        let d = some_at q.metaslabs k (omega (arith, j.other)) in
-        (j.each.at k c d.0 e x d.1 y).fixed;
-  });
+  know = know_along t p r i.know j.gate.fixed (sym j.size) (joined_alike p q r j).each;
 }
 
 pub joined_first : (p q r : Passes) → JoinedAll p q r → HaveAll r p
@@ -112,6 +119,13 @@ joined_all t p now q given r opens takes first second gate size each =
 -- the same, where the cells and the passes are open
 know_in : (t board : Turns) (p now : Passes) → t ≡ board → p ≡ now → KnowAll board now → KnowAll t p
 know_in t board p now is opens know = subst (λ (b : Turns). KnowAll b p) (sym is) (subst (KnowAll board) (sym opens) know)
+
+pub alike_in : (t : Turns) (p now q : Passes) → p ≡ now → KnowAll t now → KnowAll t q → q.gate.fixed ≡ p.gate.fixed → Each (λ k c d. d.fixed ≡ c.fixed) p.metaslabs q.metaslabs → StandAlike q now
+alike_in t p now q opens know also gate same = record {
+  gate = gate ∙ ap (λ (x : Passes). x.gate.fixed) opens;
+  count = sym also.count ∙ know.count;
+  each = subst (λ (x : Passes). Each (λ k c d. d.fixed ≡ c.fixed) x.metaslabs q.metaslabs) opens same;
+}
 
 pub rests_in : (right : ℕ) (t board : Turns) (p now q : Passes) (turns : List TableId) → t ≡ board → p ≡ now → turns ≡ t.metaslabs → KnowAll board now → IsRest right t.gate q.gate → q.gate.fixed ≡ p.gate.fixed
     → length q.metaslabs ≡ length p.metaslabs → Each (λ k turn c. IsRest right turn c) turns q.metaslabs → Each (λ k c d. d.fixed ≡ c.fixed) p.metaslabs q.metaslabs → AreRests right board q

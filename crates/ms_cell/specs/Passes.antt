@@ -76,6 +76,12 @@ pub record AreRests (right : ℕ) (t : Turns) (p : Passes) : Type 0 where
   pub each : Each (λ k turn c. IsRest right turn c) t.metaslabs p.metaslabs
   pub know : KnowAll t p
 
+-- passes stand for what others do, cell by cell
+pub record StandAlike (q p : Passes) : Type 0 where
+  pub gate : q.gate.fixed ≡ p.gate.fixed
+  pub count : length q.metaslabs ≡ length p.metaslabs
+  pub each : Each (λ k c d. d.fixed ≡ c.fixed) p.metaslabs q.metaslabs
+
 -- passes have all that others had
 pub record HaveAll (q p : Passes) : Type 0 where
   pub gate : Has q.gate p.gate

@@ -3,7 +3,7 @@ ghost use Rattle.std.specs.Prelude.{◌≡◌, ℕ, ◌+◌, ◌≤◌, [], IfOk
 ghost use Rattle.turn_cell.specs.Notes.{IsPrefix};
 ghost use Rattle.turn_cell.specs.declared.kept.TheConstants.{MAX_RIGHT};
 ghost use Rattle.vdev_map.specs.Numbers.{IsIn, number_of};
-ghost use Rattle.ms_cell.specs.Passes.{Seated, AreIdle, AreFresh, AreRests, HaveAll, seen_in};
+ghost use Rattle.ms_cell.specs.Passes.{Seated, AreIdle, AreFresh, AreRests, StandAlike, HaveAll, seen_in};
 ghost use Rattle.ms_cell.specs.Journey.{Journey};
 
 use crate::cells::{CellPasses, Cells};
@@ -24,6 +24,8 @@ pub fn next_cells<R: SegTrees>(
     requires rest { AreRests right cells.now rest.old }
     ensures rest { OnOk result (AreRests (right + 1) cells.now rest.new) }
     ensures fresh { IfOk result (λ passes. AreFresh right cells.now passes) }
+    ensures same { OnOk result (StandAlike rest.new rest.old) }
+    ensures alike { IfOk result (λ passes. StandAlike passes rest.old) }
     ensures err { OnErr result (rest.new ≡ rest.old) }
 {
     let metaslabs = next_passes(alloc, &cells.metaslabs, &mut rest.metaslabs, right)?;
@@ -36,6 +38,7 @@ pub fn join_cells<R: SegTrees>(cells: &Cells<R>, first: &mut CellPasses<R>, seco
     requires first { AreIdle cells.now first.old }
     requires second { AreIdle cells.now second }
     ensures idle { AreIdle cells.now first.new }
+    ensures alike { StandAlike first.new first.old }
     ensures first { HaveAll first.new first.old }
     ensures second { HaveAll first.new second }
 {

@@ -37,6 +37,7 @@ impl<D: Disk, R: SegTrees> Keeper<D, R> {
         requires { (t : Turns) × MayBegin t store passes }
         ensures store { result.start.store.value ≡ store }
         ensures passes { result.start.passes.value ≡ passes }
+        ensures own { result.store ≡ store }
         ensures notes { result.notes.items ≡ [] }
         ensures sound { IsSound D.state D.faults result }
     {

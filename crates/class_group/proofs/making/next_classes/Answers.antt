@@ -1,4 +1,4 @@
-use Rattle.std.proofs.Common.{◌≡◌, ◌+◌, List, length, ap, subst, ◌∙◌}
+use Rattle.std.proofs.Common.{◌≡◌, ◌+◌, List, length, ap, sym, subst, ◌∙◌}
 use Rattle.turn_cell.specs.Known.{TableId}
 use Rattle.turn_passes.specs.Parts.{IsRest, IsFresh}
 use Rattle.turn_passes.specs.Pairs.{Each}
@@ -30,3 +30,17 @@ returns-clause-fresh c =
     (subst (λ (l : List ClassKnown). Each (λ k x y. y.fixed ≡ x.fixed) l q) c.rest.view_is lists.same)
     (lists.count ∙ ap length board)
     (subst (λ (l : List TableId). Each (λ k turn x. IsFresh c.args.right turn x) l q) board lists.fresh)
+
+pub returns-clause-same : goal.returns-clause-same
+returns-clause-same c = record {
+  count = c.in_ok-cells.ensures.size ∙ ap length c.rest.view_is;
+  each = subst (λ (l : List ClassKnown). Each (λ k x y. y.fixed ≡ x.fixed) l c.next_passes.new.rests.items) c.rest.view_is c.in_ok-cells.ensures.fixed;
+}
+
+pub returns-clause-alike : goal.returns-clause-alike
+returns-clause-alike c =
+    let fresh = returns-clause-fresh c in
+    record {
+      count = sym fresh.know.count ∙ c.requires.rest.know.count;
+      each = subst (λ (l : List ClassKnown). Each (λ k x y. y.fixed ≡ x.fixed) l c.in_ok-cells.cells.items) c.rest.view_is c.in_ok-cells.ensures.same;
+    }
