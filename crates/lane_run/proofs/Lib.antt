@@ -6,4 +6,5 @@ pub mod Acting
 pub mod Seeing
 pub mod Telling
 pub mod Naming
+pub mod Commands
 pub mod Running

@@ -1,7 +1,5 @@
 -- A run of commands, from one to the next.
-use Rattle.std.proofs.Common.{◌≡◌, ℕ, ◌+◌, ◌<◌, List, [], ◌∷◌, ◌++◌, length, get_or, take, add-one, refl, sym, ◌∙◌, ap, subst, arith}
-use Rattle.std.proofs.Math.Seq.{take-suc}
-use Rattle.std.proofs.lemmas.List.{length-take-le}
+use Rattle.std.proofs.Common.{◌≡◌, ℕ, ◌+◌, List, [], ◌∷◌, ◌++◌, length, refl, ap, subst, arith}
 use Rattle.ms_cell.specs.Turns.{Turns}
 use Rattle.class_group.specs.Turns.{ClassTurns}
 use Rattle.lane_passes.specs.Lanes.{IsSeated}
@@ -19,15 +17,11 @@ use Rattle.lane_run.proofs.Acting.{did_join, did_nothing}
 
 -- commands with their replies
 
-paired_both : (cs : List Command) (rs : List Reply) (c : Command) (r : Reply) → length cs ≡ length rs → paired (cs ++ c ∷ []) (rs ++ r ∷ []) ≡ paired cs rs ++ record { command = c; reply = r } ∷ []
-paired_both [] [] c r same = refl
-paired_both [] (y ∷ rs) c r same = absurd (omega (arith, same))
-paired_both (x ∷ cs) [] c r same = absurd (omega (arith, same))
-paired_both (x ∷ cs) (y ∷ rs) c r same = ap (λ l. record { command = x; reply = y } ∷ l) (paired_both cs rs c r (omega (arith, same)))
-
-pub paired-push : (cs : List Command) (rs : List Reply) (i : ℕ) (c : Command) (r : Reply) → i < length cs → length rs ≡ i → c ≡ get_or cs i c
-    → paired (take (i + 1) cs) (rs ++ r ∷ []) ≡ paired (take i cs) rs ++ record { command = c; reply = r } ∷ []
-paired-push cs rs i c r lt same at = rw (add-one, take-suc cs i c, ← at) (paired_both (take i cs) rs c r (length-take-le i cs (omega arith) ∙ sym same))
+pub paired-push : (cs : List Command) (rs : List Reply) (c : Command) (r : Reply) → length cs ≡ length rs → paired (cs ++ c ∷ []) (rs ++ r ∷ []) ≡ paired cs rs ++ record { command = c; reply = r } ∷ []
+paired-push [] [] c r same = refl
+paired-push [] (y ∷ rs) c r same = absurd (omega (arith, same))
+paired-push (x ∷ cs) [] c r same = absurd (omega (arith, same))
+paired-push (x ∷ cs) (y ∷ rs) c r same = ap (λ l. record { command = x; reply = y } ∷ l) (paired-push cs rs c r (omega (arith, same)))
 
 module _ {D R : Type 0} (t : Turns) where
   pub ran_none : (c : ClassTurns) (p : LanePasses R) (a : LaneKeeper D R) → IsSeated t c p → Serves a p.lane t → LaneRan t [] p p a a
@@ -44,6 +38,9 @@ module _ {D R : Type 0} (t : Turns) where
 module _ {D R : Type 0} where
   pub spared_none : (p : LanePasses R) (a : LaneKeeper D R) → IsSpared 0 p p a a
   spared_none p a = record { closings = omega arith; refusals = omega arith }
+
+  pub spared_still : (n : ℕ) (p q : LanePasses R) (a b : LaneKeeper D R) → IsSpared n p q a b → IsSpared (n + 1) p q a b
+  spared_still n p q a b was = record { closings = omega (arith, was.closings); refusals = omega (arith, was.refusals) }
 
   pub spared_more : (n : ℕ) (p q r : LanePasses R) (a b d : LaneKeeper D R) → IsSpared n p q a b → IsSpared 1 q r b d → IsSpared (n + 1) p r a d
   spared_more n p q r a b d was one = record { closings = omega (arith, was.closings, one.closings); refusals = omega (arith, was.refusals, one.refusals) }

@@ -1,5 +1,6 @@
 -- What a whole run of a lane's commands did.
-use Rattle.std.specs.Prelude.{◌≡◌, ℕ, List}
+use Rattle.std.specs.Prelude.{ℕ, ◌==◌, List}
+use Rattle.std.specs.List.{filter}
 use Rattle.ms_cell.specs.Turns.{Turns}
 use Rattle.lane_passes.specs.declared.passes.LanePasses.{LanePasses}
 use Rattle.pool_keeper.specs.declared.lane_keeper.LaneKeeper.{LaneKeeper}
@@ -22,10 +23,9 @@ IsRun (Init _) = ⊥
 IsRun (Trim _) = ⊥
 IsRun (AutoTrim _) = ⊥
 
--- a command of this lane, of such a kind
-pub record IsCommandOf (lane : ℕ) (c : Command) : Type 0 where
-  pub lane_is : c.lane ≡ lane
-  pub what : IsRun c.what
+-- the commands of one lane among those of all lanes, in their order
+abbrev pub commands_of : ℕ → List Command → List Command
+commands_of lane commands = filter (λ c. lane == c.lane) commands
 
 module _ {D R : Type 0} where
   -- the lane's passes and its part of the keeper went from one state to another by these commands, with these replies

@@ -9,7 +9,7 @@ ghost use Rattle.lane_run.specs.Answers.{Replied, paired};
 ghost use Rattle.lane_run.specs.Acts.{Anything, LaneDid, IsSpared};
 ghost use Rattle.lane_run.specs.Lines.{WhatLine};
 ghost use Rattle.lane_run.specs.Names.{AreNamed, AreSmall, Learns};
-ghost use Rattle.lane_run.specs.Runs.{IsRun, IsCommandOf, LaneRan};
+ghost use Rattle.lane_run.specs.Runs.{IsRun, commands_of, LaneRan};
 
 use crate::allocs::alloc_line;
 use crate::frees::{free_line, free_seg_line};
@@ -87,9 +87,11 @@ fn run_command<'a, D: Disk + Send, R: SegTrees + Send, W: Wait>(
     }
 }
 
-/// Runs a lane's commands in their order, each behind a meeting, and answers a reply to each. Want of memory ends the lane.
+/// Runs a lane's own commands among those of all lanes, in their order, each behind a meeting, and answers a reply to each.
+/// Want of memory ends the lane.
 ///
-/// Its blocks are known by the names under which they were granted. Costs what the commands cost.
+/// Its blocks are known by the names under which they were granted. Costs one look at each command of all lanes, and what its
+/// own commands cost.
 pub fn run_lane<D: Disk + Send, R: SegTrees + Send, M: Meet, W: Wait>(
     rt: &W,
     alloc: Global,
@@ -102,19 +104,24 @@ pub fn run_lane<D: Disk + Send, R: SegTrees + Send, M: Meet, W: Wait>(
 ) -> Result<Vec<Reply>, AllocError>
     requires seated { IsSeated cells.now classes.now passes.old }
     requires serves { Serves keeper.old passes.old.lane cells.now }
-    requires commands { All (IsCommandOf passes.old.lane) commands.now }
+    requires commands { All (λ c. IsRun c.what) commands.now }
     requires few { closings_of passes.old.lane passes.old.cells.gate.seen + length commands.now ≤ MAX_COMMANDS }
     requires unrefused { keeper.old.refusals ≡ 0 }
-    ensures each { IfOk result (λ replies. length replies.items ≡ length commands.now) }
-    ensures ran { IfOk result (λ replies. LaneRan cells.now (paired commands.now replies.items) passes.old passes.new keeper.old keeper.new) }
+    ensures each { IfOk result (λ replies. length replies.items ≡ length (commands_of passes.old.lane commands.now)) }
+    ensures theirs { IfOk result (λ replies. All (λ r. r.lane ≡ passes.old.lane) replies.items) }
+    ensures ran { IfOk result (λ replies. LaneRan cells.now (paired (commands_of passes.old.lane commands.now) replies.items) passes.old passes.new keeper.old keeper.new) }
     // Whatever is answered.
     ensures did { LaneDid cells.now Anything passes.old passes.new keeper.old keeper.new }
     ensures seated { IsSeated cells.now classes.now passes.new }
     ensures serves { Serves keeper.new passes.new.lane cells.now }
 {
-    let mut replies = Vec::with_capacity(alloc, commands.len())?;
+    let lane = passes.lane;
+    let mut replies = Vec::new(alloc);
     let mut blocks = HashMap::new(alloc);
     for command in commands {
+        if command.lane != lane {
+            continue;
+        }
         meet.here(command.lane);
         let answer = run_command(
             rt,
