@@ -1,0 +1,4 @@
+pub mod Bounds
+pub mod ByVdev
+pub mod Pairs
+pub mod VdevLines
