@@ -1,0 +1,2 @@
+pub mod OneVdev
+pub mod SpecLemmas
