@@ -33,7 +33,7 @@ pub fn source(alloc: Global, bytes: &[u8], failing: usize) -> Result<MemSource, 
 
 pub fn sink(alloc: Global, failing: usize) -> Result<MemSink, AllocError> {
     let room = Room {
-        bytes: 65_536,
+        bytes: 131_072,
         calls: 65_536,
     };
     MemSink::new(alloc, room, &[failing])

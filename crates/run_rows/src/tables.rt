@@ -10,6 +10,7 @@ use zms_dev::{
     read_part, read_text, write_whole,
 };
 use zms_top::{Asked, pool_name, read_words, zms_still};
+use zms_units::VdevRow;
 
 /// Rows that keep nothing from one to the next.
 #[derive(Drop)]
@@ -25,12 +26,30 @@ impl Calls for TextCalls {
     }
 }
 
+/// The vdevs of a pool, each by its class, shift, units and metaslabs.
+fn vdevs_text(alloc: Global, vdevs: &[VdevRow]) -> Result<String, AllocError> {
+    let mut text = String::new(alloc);
+    for row in vdevs {
+        let front = if text.is_empty() { "" } else { ", " };
+        let VdevRow {
+            class,
+            ashift,
+            units,
+            metaslabs,
+        } = *row;
+        let one = format!(in alloc; "{front}{class:?} {ashift} {units} {metaslabs}")?;
+        text.push_str(one.as_str())?;
+    }
+    Ok(text)
+}
+
 /// What words ask for, and the pool that they name.
 fn asked(alloc: Global, text: &str) -> Result<String, AllocError> {
     let words = words_of(alloc, text)?;
     match (read_words(&words), pool_name(&words)) {
-        (Some(Asked::Create { units }), Some(pool)) => {
-            format!(in alloc; "create {pool} of {units} units")
+        (Some(Asked::Create { vdevs }), Some(pool)) => {
+            let vdevs = vdevs_text(alloc, vdevs.as_slice())?;
+            format!(in alloc; "create {pool} of {vdevs}")
         }
         (Some(Asked::Run { at }), Some(pool)) => format!(in alloc; "run {pool} at {at:?}"),
         (Some(Asked::Report { at }), Some(pool)) => format!(in alloc; "report {pool} at {at:?}"),

@@ -13,7 +13,7 @@ use Rattle.zms_top.specs.World.{World}
 use Rattle.zms_top.specs.Writes.{WritesBoth}
 use Rattle.zms_top.specs.Lines.{AreIntervals}
 use Rattle.zms_top.specs.Runs.{answers_of}
-use Rattle.zms_top.specs.Ends.{any_device, is_device, damage_in, first_of, first_damage, written_status, end_status, text_of, IsReadEnd, IsOpenEnd, IsOrigin, IsCutOff, LanesDid, RunEnds}
+use Rattle.zms_top.specs.Ends.{any_device, is_device, damage_in, first_of, first_damage, written_status, end_status, text_of, IsOfText, IsReadEnd, IsOpenEnd, IsOrigin, IsCutOff, LanesDid, RunEnds}
 use Rattle.zms_top.specs.Creations.{CreateEnds}
 use Rattle.zms_top.specs.PoolReports.{ReportEnds}
 use Rattle.zms_top.specs.Stored.{IsSingle, IsWhole}
@@ -30,6 +30,7 @@ use Rattle.zms_top.specs.declared.status.Status.TheVariants.{Done, Usage, BadTex
 use Rattle.zms_top.specs.declared.status.PoolCause.TheVariants.{Open, OtherLayout, AlreadyPool}
 use Rattle.zms_units.specs.declared.faults.Damage.{Damage}
 use Rattle.zms_units.specs.declared.places.MsId.{MsId}
+use Rattle.zms_units.specs.declared.places.VdevRow.{VdevRow}
 use Rattle.zms_dev.specs.Disk.{Tells, bytes_of}
 use Rattle.vdev_map.specs.declared.layout.Layout.{Layout}
 use Rattle.vdev_map.specs.declared.table.Table.{Table}
@@ -168,16 +169,16 @@ module _ (words : List (List ℕ)) (old new : World) where
   run_cause at status journals lists asks (RunEnds.began commands file _ layout o origin ends) =
       end_cause at commands layout o ends.journal ends.some_journals ends.some_lists status asks (commands, file) origin ends.end
 
-  made_cause : (units : ℕ) (text : List ℕ) (printed : Result (Unit {0}) Failed) → Asks words (Create units) → (Tells old.disk → HasNone (bytes_of old.disk))
+  made_cause : (vdevs : List VdevRow) (text : List ℕ) (printed : Result (Unit {0}) Failed) → Asks words (Create vdevs) → (Tells old.disk → HasNone (bytes_of old.disk))
       → HandsOn old.out new.out text printed → To (written_status printed)
-  made_cause units text (Ok _) asks none prints = Cause.created units asks none
-  made_cause units text (Err _) asks none prints = Cause.write_fault (rose old.out.faults new.out.faults prints.prints.cause.failed)
+  made_cause vdevs text (Ok _) asks none prints = Cause.created vdevs asks none
+  made_cause vdevs text (Err _) asks none prints = Cause.write_fault (rose old.out.faults new.out.faults prints.prints.cause.failed)
 
-  pub create_cause : (units : ℕ) (status : Status) → Asks words (Create units) → CreateEnds units old.out new.out old.disk new.disk old.faults new.faults status → To status
-  create_cause units _ asks (CreateEnds.already group has _ _) = Cause.already units asks group (λ tells. (has tells).0)
-  create_cause units _ asks (CreateEnds.device _ once _) = Cause.device_fault (rose old.faults new.faults once)
-  create_cause units _ asks (CreateEnds.memory _ _ _) = Cause.memory
-  create_cause units _ asks (CreateEnds.created made _ printed prints) = made_cause units _ printed asks (λ tells. (made tells).none) prints
+  pub create_cause : (vdevs : List VdevRow) (status : Status) → Asks words (Create vdevs) → CreateEnds vdevs old.out new.out old.disk new.disk old.faults new.faults status → To status
+  create_cause vdevs _ asks (CreateEnds.already group has _ _) = Cause.already vdevs asks group (λ tells. (has tells).0)
+  create_cause vdevs _ asks (CreateEnds.device _ once _) = Cause.device_fault (rose old.faults new.faults once)
+  create_cause vdevs _ asks (CreateEnds.memory _ _ _) = Cause.memory
+  create_cause vdevs _ asks (CreateEnds.created made _ printed prints) = made_cause vdevs _ printed asks (λ tells. (made tells).none) prints
 
   pub report_cause : (at : At) (status : Status) → Asks words (Report at) → ReportEnds at old.out new.out old.disk old.faults new.faults status → To status
   report_cause at _ asks (ReportEnds.unopened cause shows _ _ _) = Cause.unreported at asks cause shows
@@ -189,21 +190,33 @@ module _ (words : List (List ℕ)) (old new : World) where
   -- what is left of a call that is no run, by what the words ask for
   pub still_cause : (status : Status) (asked : Option Asked) → IfSome asked (λ a. Asks words a) → IfNone asked (AsksNothing words)
       → ((at : At) → asked ≡ Some (Run at) → ⊥) → (AsksNothing words → status ≡ Usage)
-      → ((units : ℕ) → Asks words (Create units) → CreateEnds units old.out new.out old.disk new.disk old.faults new.faults status)
+      → ((vdevs : List VdevRow) → Asks words (Create vdevs) → CreateEnds vdevs old.out new.out old.disk new.disk old.faults new.faults status)
       → ((at : At) → Asks words (Report at) → ReportEnds at old.out new.out old.disk old.faults new.faults status) → To status
   still_cause status None some none other usage create report = subst To (sym (usage none)) (Cause.usage none)
   still_cause status (Some (Run at)) some none other usage create report = absurd (other at refl)
-  still_cause status (Some (Create units)) some none other usage create report = create_cause units status some (create units some)
+  still_cause status (Some (Create vdevs)) some none other usage create report = create_cause vdevs status some (create vdevs some)
   still_cause status (Some (Report at)) some none other usage create report = report_cause at status some (report at some)
 
-  run_not_create : (at : At) (units : ℕ) → Asks words (Run at) → Asks words (Create units) → ⊥
-  run_not_create at units run create = absurd (let same = asks_once words (Run at) (Create units) run create in cc)
+  -- only a run reads a command file
+  pub runs_of_text : (status : Status) → To status → IsOfText status → (at : At) × Asks words (Run at)
+  runs_of_text ReadFault (Cause.read_fault at asks _) of_text = (at, asks)
+  runs_of_text (BadText _) (Cause.bad_text at asks _ _) of_text = (at, asks)
+  runs_of_text Done cause of_text = absurd of_text
+  runs_of_text Usage cause of_text = absurd of_text
+  runs_of_text WriteFault cause of_text = absurd of_text
+  runs_of_text DeviceFault cause of_text = absurd of_text
+  runs_of_text (NotAPool _) cause of_text = absurd of_text
+  runs_of_text Memory cause of_text = absurd of_text
+  runs_of_text (Found _) cause of_text = absurd of_text
+
+  run_not_create : (at : At) (vdevs : List VdevRow) → Asks words (Run at) → Asks words (Create vdevs) → ⊥
+  run_not_create at vdevs run create = absurd (let same = asks_once words (Run at) (Create vdevs) run create in cc)
 
   pub run_not_report : (at other : At) → Asks words (Run at) → Asks words (Report other) → ⊥
   run_not_report at other run report = absurd (let same = asks_once words (Run at) (Report other) run report in cc)
 
-  create_not_report : (units : ℕ) (at : At) → Asks words (Create units) → Asks words (Report at) → ⊥
-  create_not_report units at create report = absurd (let same = asks_once words (Create units) (Report at) create report in cc)
+  create_not_report : (vdevs : List VdevRow) (at : At) → Asks words (Create vdevs) → Asks words (Report at) → ⊥
+  create_not_report vdevs at create report = absurd (let same = asks_once words (Create vdevs) (Report at) create report in cc)
 
   one_report : (at other : At) → Asks words (Report at) → Asks words (Report other) → at ≡ other
   one_report at other one two = let same = asks_once words (Report at) (Report other) one two in cc
@@ -230,7 +243,7 @@ module _ (words : List (List ℕ)) (old new : World) where
       let opens : Opens (bytes_of old.disk) at run.layout run.table = subst (λ a. Opens (bytes_of old.disk) a run.layout run.table) (same_at run.at at run.asks asks) run.opens in
       absurd (has.other run.units (opens_single (bytes_of old.disk) at run.layout has.layout run.table has.table run.units opens run.vdevs run.single has.opens has.vdevs))
   run_is_done _ (Cause.damaged at asks _ cause _ not_whole) run = absurd (not_whole (subst (λ a. IsWhole old.disk a) (same_at run.at at run.asks asks) run.whole))
-  run_is_done _ (Cause.already units asks _ _) run = absurd (run_not_create run.at units run.asks asks)
+  run_is_done _ (Cause.already vdevs asks _ _) run = absurd (run_not_create run.at vdevs run.asks asks)
   run_is_done _ (Cause.unreported at asks _ _) run = absurd (run_not_report run.at at run.asks asks)
   run_is_done _ (Cause.reported _ _ _ _ _) run = inl refl
   run_is_done _ (Cause.ran _ _ _ _) run = inl refl
@@ -238,17 +251,17 @@ module _ (words : List (List ℕ)) (old new : World) where
   run_is_done _ Cause.memory run = inr refl
 
   pub create_is_done : (status : Status) → To status → IsHonestCreate words old new → IsDone status
-  create_is_done _ (Cause.usage none) made = absurd (none (Create made.units) made.asks)
-  create_is_done _ (Cause.read_fault at asks _) made = absurd (run_not_create at made.units asks made.asks)
-  create_is_done _ (Cause.bad_text at asks _ _) made = absurd (run_not_create at made.units asks made.asks)
+  create_is_done _ (Cause.usage none) made = absurd (none (Create made.vdevs) made.asks)
+  create_is_done _ (Cause.read_fault at asks _) made = absurd (run_not_create at made.vdevs asks made.asks)
+  create_is_done _ (Cause.bad_text at asks _ _) made = absurd (run_not_create at made.vdevs asks made.asks)
   create_is_done _ (Cause.device_fault risen) made = absurd (made.device risen)
   create_is_done _ (Cause.write_fault risen) made = absurd (made.sink risen)
-  create_is_done _ (Cause.trace_fault at asks _) made = absurd (run_not_create at made.units asks made.asks)
-  create_is_done _ (Cause.unopened at asks _ _ _) made = absurd (run_not_create at made.units asks made.asks)
-  create_is_done _ (Cause.other_layout at asks _ _) made = absurd (run_not_create at made.units asks made.asks)
-  create_is_done _ (Cause.damaged at asks _ _ _ _) made = absurd (run_not_create at made.units asks made.asks)
+  create_is_done _ (Cause.trace_fault at asks _) made = absurd (run_not_create at made.vdevs asks made.asks)
+  create_is_done _ (Cause.unopened at asks _ _ _) made = absurd (run_not_create at made.vdevs asks made.asks)
+  create_is_done _ (Cause.other_layout at asks _ _) made = absurd (run_not_create at made.vdevs asks made.asks)
+  create_is_done _ (Cause.damaged at asks _ _ _ _) made = absurd (run_not_create at made.vdevs asks made.asks)
   create_is_done _ (Cause.already _ _ group has) made = let has = has made.tells in absurd (made.none has.uber has.newest.valid)
-  create_is_done _ (Cause.unreported at asks _ _) made = absurd (create_not_report made.units at made.asks asks)
+  create_is_done _ (Cause.unreported at asks _ _) made = absurd (create_not_report made.vdevs at made.asks asks)
   create_is_done _ (Cause.reported _ _ _ _ _) made = inl refl
   create_is_done _ (Cause.ran _ _ _ _) made = inl refl
   create_is_done _ (Cause.created _ _ _) made = inl refl
@@ -266,7 +279,7 @@ module _ (words : List (List ℕ)) (old new : World) where
   report_is_done _ (Cause.damaged at asks _ _ _ _) told = absurd (run_not_report at told.at asks told.asks)
   report_is_done _ (Cause.unreported at asks cause shows) told =
       absurd (opens_no_cause (bytes_of old.disk) at told.layout told.table cause (subst (λ a. Opens (bytes_of old.disk) a told.layout told.table) (one_report told.at at told.asks asks) told.opens) (shows told.tells))
-  report_is_done _ (Cause.already units asks _ _) told = absurd (create_not_report units told.at asks told.asks)
+  report_is_done _ (Cause.already vdevs asks _ _) told = absurd (create_not_report vdevs told.at asks told.asks)
   report_is_done _ (Cause.ran _ _ _ _) told = inl refl
   report_is_done _ (Cause.reported _ _ _ _ _) told = inl refl
   report_is_done _ (Cause.created _ _ _) told = inl refl

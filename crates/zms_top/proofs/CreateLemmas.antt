@@ -1,5 +1,6 @@
 -- A pool that is created.
-use Rattle.std.proofs.Common.{◌≡◌, ℕ, Ok, Err, refl, inr}
+use Rattle.std.proofs.Common.{◌≡◌, ℕ, List, Ok, Err, refl, inr}
+use Rattle.zms_units.specs.declared.places.VdevRow.{VdevRow}
 use Rattle.zms_dev.specs.Disk.{DiskState}
 use Rattle.zms_dev.specs.Stream.{SinkState}
 use Rattle.meta_store.specs.declared.create_faults.CreateFault.{CreateFault}
@@ -19,16 +20,16 @@ uncalled disk = record {
 }
 
 -- a creation that was refused
-pub refused_ends : (units : ℕ) (out out_now : SinkState) (start now : DiskState) (low high : ℕ) (fault : CreateFault) (status : Status)
-    → status ≡ refused_status fault → MakesPool (created_layout units) start now low high (Err fault) → out_now ≡ out → CreateEnds units out out_now start now low high status
-refused_ends units out out_now start now low high (HasPool newest) status is makes same =
+pub refused_ends : (vdevs : List VdevRow) (out out_now : SinkState) (start now : DiskState) (low high : ℕ) (fault : CreateFault) (status : Status)
+    → status ≡ refused_status fault → MakesPool (created_layout vdevs) start now low high (Err fault) → out_now ≡ out → CreateEnds vdevs out out_now start now low high status
+refused_ends vdevs out out_now start now low high (HasPool newest) status is makes same =
     rw is (CreateEnds.already newest (λ tells. (makes.fault tells, (makes.creating tells).pool (makes.fault tells).uber (makes.fault tells).newest.valid)) (makes.steady (λ is. cc)) same)
-refused_ends units out out_now start now low high CreateFailed status is makes same = rw is (CreateEnds.device makes.creating (makes.failed refl) same)
-refused_ends units out out_now start now low high CreateMemory status is makes same =
+refused_ends vdevs out out_now start now low high CreateFailed status is makes same = rw is (CreateEnds.device makes.creating (makes.failed refl) same)
+refused_ends vdevs out out_now start now low high CreateMemory status is makes same =
     rw is (CreateEnds.memory (inr (λ tells. (makes.fault tells, makes.memory tells refl))) (makes.steady (λ is. cc)) same)
 
 -- and one that was not
-pub made_ends : (units : ℕ) (out out_now : SinkState) (start now : DiskState) (low high : ℕ) (status : Status)
-    → MakesPool (created_layout units) start now low high (Ok tt) → IsAnnounced out out_now status → CreateEnds units out out_now start now low high status
-made_ends units out out_now start now low high status makes said =
+pub made_ends : (vdevs : List VdevRow) (out out_now : SinkState) (start now : DiskState) (low high : ℕ) (status : Status)
+    → MakesPool (created_layout vdevs) start now low high (Ok tt) → IsAnnounced out out_now status → CreateEnds vdevs out out_now start now low high status
+made_ends vdevs out out_now start now low high status makes said =
     rw said.status_is (CreateEnds.created (λ tells. record { creating = makes.creating tells; none = makes.none tells; made = makes.done tells }) (makes.steady (λ is. cc)) said.printed said.prints)

@@ -1,16 +1,18 @@
 -- The words of the command line, as lists.
-use Rattle.std.proofs.Common.{Option, Some, None, Bor, String, Global, ◌≡◌, ℕ, ◌+◌, ◌-◌, ◌^◌, ◌≤◌, ◌<◌, true, false, List, [], ◌∷◌, ◌++◌, length, take, drop, get_or, inl, inr, refl, sym, ◌∙◌, ap, subst, arith, length-append}
-use Rattle.std.specs.Prelude.{MatchOption, IfSome, IfNone, codes, decimal, map, string_bytes}
+use Rattle.std.proofs.Common.{Option, Some, None, Bor, String, Global, ◌≡◌, ℕ, ◌+◌, ◌^◌, ◌≤◌, ◌<◌, true, false, List, [], ◌∷◌, ◌++◌, length, take, drop, get_or, inl, inr, refl, sym, ◌∙◌, ap, subst, arith}
+use Rattle.std.specs.Prelude.{MatchOption, IfSome, IfNone, codes, map, string_bytes}
 use Rattle.std.specs.Str.{bytes_eq}
 use Rattle.std.proofs.lemmas.Slice.Eq.{bytes_eq-Decides}
-use Rattle.std.proofs.Math.Seq.{take-append_seam, drop-append_seam}
-use Rattle.std.proofs.lemmas.List.{append_cancel_left, append_cancel_right, take-append-drop}
+use Rattle.std.proofs.Math.Seq.{take-append_seam}
+use Rattle.std.proofs.lemmas.List.{append_cancel_left, take-append-drop}
 use Rattle.std.proofs.lemmas.Fmt.{decimal_injective}
 use Rattle.std.specs.Prelude.{◌⊎◌, IsTrue}
 use Rattle.std.specs.List.{list_all}
 use Rattle.meta_store.specs.declared.causes.At.{At}
 use Rattle.meta_store.specs.declared.causes.At.TheVariants.{Newest, Group as AtGroup}
-use Rattle.zms_top.specs.Words.{is_pool_byte, IsPoolName, spec_text, group_word, ArePoolAndGroup, AsksGroup, AsksAt, AsksOf, Asks}
+use Rattle.vdev_text.specs.Specs.{spec_text}
+use Rattle.vdev_text.proofs.SpecLemmas.{spec_once}
+use Rattle.zms_top.specs.Words.{is_pool_byte, IsPoolName, group_word, ArePoolAndGroup, AsksGroup, AsksAt, AsksOf, Asks}
 use Rattle.zms_top.specs.declared.words.Asked.{Asked}
 use Rattle.zms_top.specs.declared.words.Asked.TheVariants.{Create, Run, Report}
 
@@ -28,19 +30,6 @@ three_words (x ∷ []) a b c low high e f g = absurd (omega arith)
 three_words (x ∷ (y ∷ [])) a b c low high e f g = absurd (omega arith)
 three_words (x ∷ (y ∷ (z ∷ []))) a b c low high e f g = cc
 three_words (x ∷ (y ∷ (z ∷ (v ∷ ws)))) a b c low high e f g = absurd (omega arith)
-
--- a spec tells its units
-pub spec_once : (m n : ℕ) → m < 2 ^ 64 → n < 2 ^ 64 → spec_text m ≡ spec_text n → m ≡ n
-spec_once m n fits fits' e =
-    let ends : (decimal m ++ (58 ∷ (49 ∷ []))) ≡ (decimal n ++ (58 ∷ (49 ∷ []))) = append_cancel_left (codes "normal:12:") _ _ e in
-    decimal_injective m n fits fits' (same_front (decimal m) (decimal n) ends)
-  where
-    same_front : (xs ys : List ℕ) → (xs ++ (58 ∷ (49 ∷ []))) ≡ (ys ++ (58 ∷ (49 ∷ []))) → xs ≡ ys
-    same_front xs ys f = append_cancel_right xs ys (58 ∷ (49 ∷ [])) f
-
-pub spec_not : (spec behind front : List ℕ) (n : ℕ) → codes "normal:12:" ++ behind ≡ spec → front ++ codes ":1" ≡ behind → decimal n ≡ front → spec_text n ≡ spec
-spec_not spec behind front n one two three =
-    ap (λ l. codes "normal:12:" ++ (l ++ codes ":1")) three ∙ ap (λ l. codes "normal:12:" ++ l) two ∙ one
 
 -- an option is no name
 pub option_no_name : (group : ℕ) (name : List ℕ) → IsPoolName name → name ≡ group_word group → ⊥
@@ -104,7 +93,7 @@ asks_of_once words p q (Create m) (Report b) np nq one two =
 asks_of_once words p q (Create m) (Create n) np nq one two =
     let both : codes "create" ∷ (p ∷ (spec_text m ∷ [])) ≡ codes "create" ∷ (q ∷ (spec_text n ∷ [])) = sym one.0 ∙ two.0 in
     let texts : spec_text m ≡ spec_text n = cc in
-    ap Create (spec_once m n (omega (arith, one.1.1)) (omega (arith, two.1.1)) texts)
+    ap Create (spec_once (spec_text n) m n (record { vdevs = one.1; text_is = texts }) (record { vdevs = two.1; text_is = refl }))
 
 pub asks_once : (words : List (List ℕ)) (x y : Asked) → Asks words x → Asks words y → x ≡ y
 asks_once words x y one two = asks_of_once words one.pool two.pool x y one.name two.name one.are two.are
@@ -140,8 +129,8 @@ named_at words second third command pool (AtGroup group) one two name are other 
 
 third_named : (words : List (String Global)) (second third : String Global) (asked : Asked) → second ≡ get_or words 1 second → third ≡ get_or words 2 third → (asks : Asks (map string_bytes words) asked)
     → (IsPoolName (string_bytes second) → ⊥) → string_bytes third ≡ asks.pool
-third_named words second third (Create units) one two asks other =
-    absurd (other (subst IsPoolName (sym (second_is words (codes "create") asks.pool (spec_text units ∷ []) second asks.are.0 one)) asks.name))
+third_named words second third (Create vdevs) one two asks other =
+    absurd (other (subst IsPoolName (sym (second_is words (codes "create") asks.pool (spec_text vdevs ∷ []) second asks.are.0 one)) asks.name))
 third_named words second third (Run at) one two asks other = named_at words second third (codes "run") asks.pool at one two asks.name asks.are other
 third_named words second third (Report at) one two asks other = named_at words second third (codes "report") asks.pool at one two asks.name asks.are other
 
@@ -151,7 +140,7 @@ name_is_third words second third asked one two asks other =
     let is = third_named words second third asked one two asks other in
     (subst IsPoolName (sym is) asks.name, (asked, subst (λ (n : List ℕ). AsksOf n (map string_bytes words) asked) (sym is) asks.are))
 
--- what stands behind a text, and before one
+-- what stands behind a text
 
 pub behind : (text head : List ℕ) → bytes_eq (take (length head) text) head ≡ true → head ++ drop (length head) text ≡ text
 behind text head e =
@@ -162,19 +151,6 @@ pub not_behind : (text head : List ℕ) → bytes_eq (take (length head) text) h
 not_behind text head e rest is =
     let same : take (length head) text ≡ head = ap (take (length head)) (sym is) ∙ take-append_seam head rest in
     let yes : bytes_eq (take (length head) text) head ≡ true = (bytes_eq-Decides (take (length head) text) head).1 same in
-    cc
-
-pub in_front : (text tail : List ℕ) → bytes_eq (drop (length text - length tail) text) tail ≡ true → take (length text - length tail) text ++ tail ≡ text
-in_front text tail e =
-    let same : drop (length text - length tail) text ≡ tail = (bytes_eq-Decides (drop (length text - length tail) text) tail).0 e in
-    ap (λ l. take (length text - length tail) text ++ l) (sym same) ∙ take-append-drop (length text - length tail) text
-
-pub not_in_front : (text tail : List ℕ) → bytes_eq (drop (length text - length tail) text) tail ≡ false → (front : List ℕ) → front ++ tail ≡ text → ⊥
-not_in_front text tail e front is =
-    let at : length text - length tail ≡ length front = omega (arith, ap length is, length-append front tail) in
-    let same : drop (length text - length tail) text ≡ tail =
-    ap (λ n. drop n text) at ∙ ap (drop (length front)) (sym is) ∙ drop-append_seam front tail in
-    let yes : bytes_eq (drop (length text - length tail) text) tail ≡ true = (bytes_eq-Decides (drop (length text - length tail) text) tail).1 same in
     cc
 
 pub after_some : (text head : List ℕ) (r : Option (Bor (List ℕ)))
@@ -190,17 +166,3 @@ pub after_none : (text head : List ℕ) (r : Option (Bor (List ℕ)))
     → IfNone r ((rest : List ℕ) → head ++ rest ≡ text → ⊥)
 after_none text head None m = not_behind text head m
 after_none text head (Some x) m = tt
-
-pub before_some : (text tail : List ℕ) (r : Option (Bor (List ℕ)))
-    → MatchOption r (bytes_eq (drop (length text - length tail) text) tail ≡ false)
-    (λ x. (bytes_eq (drop (length text - length tail) text) tail ≡ true) × (x.now ≡ take (length text - length tail) text) × (length x.now + length tail ≡ length text))
-    → IfSome r (λ front. front.now ++ tail ≡ text)
-before_some text tail None m = tt
-before_some text tail (Some x) m = ap (λ l. l ++ tail) m.1 ∙ in_front text tail m.0
-
-pub before_none : (text tail : List ℕ) (r : Option (Bor (List ℕ)))
-    → MatchOption r (bytes_eq (drop (length text - length tail) text) tail ≡ false)
-    (λ x. (bytes_eq (drop (length text - length tail) text) tail ≡ true) × (x.now ≡ take (length text - length tail) text) × (length x.now + length tail ≡ length text))
-    → IfNone r ((front : List ℕ) → front ++ tail ≡ text → ⊥)
-before_none text tail None m = not_in_front text tail m
-before_none text tail (Some x) m = tt

@@ -1,5 +1,6 @@
 -- The table of causes: what each status of a call says of its objects.
 use Rattle.std.specs.Prelude.{◌≡◌, ℕ, ◌⊎◌, Option, IsSome, List}
+use Rattle.zms_units.specs.declared.places.VdevRow.{VdevRow}
 use Rattle.zms_units.specs.declared.segments.Group.{Group}
 use Rattle.zms_dev.specs.Causes.{Rose}
 use Rattle.zms_dev.specs.Disk.{DiskState, Tells, bytes_of}
@@ -62,13 +63,13 @@ pub data Cause (words : List (List ℕ)) (old new : World) : Status → Type 0 w
   -- a report over a device that shows why it does not open
   unreported : (at : At) → Asks words (Report at) → (cause : OpenCause) → (Tells old.disk → Shows (bytes_of old.disk) at cause) → Cause words old new (NotAPool (Open cause))
   -- a creation over a device with a pool, whose newest group is told
-  already : (units : ℕ) → Asks words (Create units) → (group : Group) → (Tells old.disk → HasNewest (bytes_of old.disk) group.0) → Cause words old new (NotAPool (AlreadyPool group))
+  already : (vdevs : List VdevRow) → Asks words (Create vdevs) → (group : Group) → (Tells old.disk → HasNewest (bytes_of old.disk) group.0) → Cause words old new (NotAPool (AlreadyPool group))
   -- a run to its end
   ran : (at : At) → Asks words (Run at) → HasFile old.input.left → HasPool old.disk at → Cause words old new Done
   -- a report of a device that opens
   reported : (at : At) → Asks words (Report at) → (layout : Layout) (table : Table) → (Tells old.disk → Opens (bytes_of old.disk) at layout table) → Cause words old new Done
   -- a pool that was created
-  created : (units : ℕ) → Asks words (Create units) → (Tells old.disk → HasNone (bytes_of old.disk)) → Cause words old new Done
+  created : (vdevs : List VdevRow) → Asks words (Create vdevs) → (Tells old.disk → HasNone (bytes_of old.disk)) → Cause words old new Done
   -- want of memory, of which nothing is said
   memory : Cause words old new Memory
 
@@ -106,8 +107,8 @@ pub record IsHonestReport (words : List (List ℕ)) (old new : World) : Type 0 w
 
 -- a creation that nothing stands in the way of: a device that tells and has no valid slot, and no fault
 pub record IsHonestCreate (words : List (List ℕ)) (old new : World) : Type 0 where
-  pub units : ℕ
-  pub asks : Asks words (Create units)
+  pub vdevs : List VdevRow
+  pub asks : Asks words (Create vdevs)
   pub tells : Tells old.disk
   pub none : HasNone (bytes_of old.disk)
   pub sink : Rose old.out.faults new.out.faults → ⊥

@@ -1,7 +1,7 @@
 -- How a creation ends: each way, with its cause, and what it leaves of the device.
-use Rattle.std.specs.Prelude.{◌≡◌, ℕ, ◌⊎◌, ◌↔◌, Result, List, [], ◌∷◌, ◌++◌, IfErr, OnOk, IsErrOf}
+use Rattle.std.specs.Prelude.{◌≡◌, ℕ, ◌⊎◌, ◌↔◌, Result, List, ◌∷◌, ◌++◌, IfErr, OnOk, IsErrOf}
 use Rattle.zms_units.specs.declared.segments.Group.{Group}
-use Rattle.zms_units.specs.declared.places.Class.TheVariants.{Normal}
+use Rattle.zms_units.specs.declared.places.VdevRow.{VdevRow}
 use Rattle.zms_dev.specs.Causes.{one_more}
 use Rattle.zms_dev.specs.Disk.{DiskState, Tells, bytes_of}
 use Rattle.zms_dev.specs.Prints.{HandsOn}
@@ -21,10 +21,10 @@ use Rattle.zms_top.specs.declared.status.PoolCause.TheVariants.{AlreadyPool}
 use Rattle.zms_top.specs.declared.status.Status.{Status}
 use Rattle.zms_top.specs.declared.status.Status.TheVariants.{DeviceFault, NotAPool, Memory}
 
--- the layout of a pool that is created: one normal vdev of 4096-byte units with one metaslab, each metaslab unflushed for at
--- most 8 groups, and at most 65536 runs in the log of a group
-abbrev pub created_layout : ℕ → Layout
-created_layout units = record { flush = 8; log = 65536; vdevs = record { class = Normal; ashift = 12; units = units; metaslabs = 1 } ∷ [] }
+-- the layout of a pool that is created of these vdevs: each metaslab unflushed for at most 8 groups, and at most 65536 runs in
+-- the log of a group
+abbrev pub created_layout : List VdevRow → Layout
+created_layout vdevs = record { flush = 8; log = 65536; vdevs = vdevs }
 
 -- what a creation leaves of the device, however it ends: at first the head and the ring may be torn, and from the first flush
 -- on there is no pool, or all of it; and where there was a pool nothing is touched
@@ -50,20 +50,20 @@ pub record IsUncalled (start now : DiskState) : Type 0 where
   pub flushes : now.flushes ≡ start.flushes
 
 -- the ways in which a creation ends
-pub data CreateEnds (units : ℕ) (out out_now : SinkState) (start now : DiskState) (low high : ℕ) : Status → Type 0 where
+pub data CreateEnds (vdevs : List VdevRow) (out out_now : SinkState) (start now : DiskState) (low high : ℕ) : Status → Type 0 where
   -- the device has a pool, of this newest group
   already : (group : Group) → (Tells start → HasNewest (bytes_of start) group.0 × Untouched start now) → high ≡ low → out_now ≡ out
-      → CreateEnds units out out_now start now low high (NotAPool (AlreadyPool group))
+      → CreateEnds vdevs out out_now start now low high (NotAPool (AlreadyPool group))
   -- the device failed
-  device : (Tells start → IsCreating (created_layout units) start now) → high ≡ one_more low → out_now ≡ out
-      → CreateEnds units out out_now start now low high DeviceFault
+  device : (Tells start → IsCreating (created_layout vdevs) start now) → high ≡ one_more low → out_now ≡ out
+      → CreateEnds vdevs out out_now start now low high DeviceFault
   -- memory ran out: before the device was called, or there was no pool, and there is none
   memory : IsUncalled start now ⊎ (Tells start → HasNone (bytes_of start) × IsUnmade start now) → high ≡ low → out_now ≡ out
-      → CreateEnds units out out_now start now low high Memory
+      → CreateEnds vdevs out out_now start now low high Memory
   -- the pool was made, and this was said or not
-  created : (Tells start → IsCreated (created_layout units) start now) → high ≡ low
+  created : (Tells start → IsCreated (created_layout vdevs) start now) → high ≡ low
       → (printed : Result (Unit {0}) Failed) → HandsOn out out_now created_text printed
-      → CreateEnds units out out_now start now low high (written_status printed)
+      → CreateEnds vdevs out out_now start now low high (written_status printed)
 
 -- a creation that was refused answers why
 abbrev pub refused_status : CreateFault → Status

@@ -1,8 +1,9 @@
 -- The words of the command line. Each form is what its words are; reading them is the inverse.
 use Rattle.std.specs.Prelude.{◌≡◌, ℕ, ◌<◌, ◌≤◌, Bool, ◌==◌, ◌||◌, ◌⊎◌, ◌^◌, List, [], ◌∷◌, ◌++◌, length, IsTrue, codes, decimal}
-use Rattle.zms_units.specs.Limits.{IsUnitCount}
 use Rattle.std.specs.List.{list_all}
 use Rattle.cmd_text.specs.Words.{is_lowercase, is_digit}
+use Rattle.vdev_map.specs.Limits.{AreVdevs}
+use Rattle.vdev_text.specs.Specs.{spec_text}
 use Rattle.meta_store.specs.declared.causes.At.{At}
 use Rattle.meta_store.specs.declared.causes.At.TheVariants.{Newest, Group as AtGroup}
 use Rattle.zms_top.specs.declared.words.Asked.{Asked}
@@ -17,10 +18,6 @@ pub record IsPoolName (name : List ℕ) : Type 0 where
   pub some : 0 < length name
   pub short : length name ≤ 64
   pub bytes : IsTrue (list_all is_pool_byte name)
-
--- a normal vdev of 4096-byte units with one metaslab of so many units
-abbrev pub spec_text : ℕ → List ℕ
-spec_text units = codes "normal:12:" ++ (decimal units ++ codes ":1")
 
 -- the option that names a group
 abbrev pub group_word : ℕ → List ℕ
@@ -45,7 +42,7 @@ AsksAt command pool words (AtGroup group) = AsksGroup command pool words group.0
 
 -- what the words ask for of the pool of a name
 abbrev pub AsksOf : List ℕ → List (List ℕ) → Asked → Type 0
-AsksOf pool words (Create units) = (words ≡ codes "create" ∷ pool ∷ spec_text units ∷ []) × (IsUnitCount units)
+AsksOf pool words (Create vdevs) = (words ≡ codes "create" ∷ pool ∷ spec_text vdevs ∷ []) × AreVdevs vdevs
 AsksOf pool words (Run at) = AsksAt (codes "run") pool words at
 AsksOf pool words (Report at) = AsksAt (codes "report") pool words at
 

@@ -1,10 +1,10 @@
 //! The two calls of the program.
 
 ghost use Rattle.std.specs.Prelude.{◌≡◌, ℕ, ◌+◌, ◌^◌, ◌<◌, ◌≤◌, ◌↔◌, List, length, map, string_bytes, None, IfOk};
-ghost use Rattle.zms_units.specs.Limits.{MAX_UNITS};
+ghost use Rattle.zms_units.specs.declared.places.VdevRow.{VdevRow};
 ghost use Rattle.zms_dev.specs.Disk.{Tells};
 ghost use Rattle.zms_dev.specs.Runs.{Untouched};
-ghost use Rattle.vdev_map.specs.Limits.{IsLayout};
+ghost use Rattle.vdev_map.specs.Limits.{IsLayout, AreVdevs};
 ghost use Rattle.meta_store.specs.declared.causes.At.{At};
 ghost use Rattle.zms_top.specs.Words.{Asks, AsksNothing};
 ghost use Rattle.zms_top.specs.Causes.{Cause, IsHonestRun, IsHonestReport, IsHonestCreate, IsDone};
@@ -16,7 +16,6 @@ ghost use Rattle.zms_top.specs.declared.words.Asked.TheVariants.{Create, Run, Re
 ghost use Rattle.zms_top.specs.declared.status.Status.TheVariants.{Usage};
 
 use crate::output::write_created;
-use crate::pool::ASHIFT;
 use crate::pool_report::report;
 use crate::run::run;
 use crate::status::{PoolCause, Shipped, Status};
@@ -26,8 +25,9 @@ use std::alloc::{AllocError, Global};
 use std::sync::Wait;
 use std::thread::Threads;
 use vdev_map::Layout;
+use vdev_text::Vdevs;
 use zms_dev::{Data, Disk, Meet, Sink, Source};
-use zms_units::{Class, Items, VdevRow};
+use zms_units::Items;
 
 /// For how many groups a metaslab of a new pool may stay unflushed.
 const FLUSH: u32 = 8;
@@ -35,23 +35,17 @@ const FLUSH: u32 = 8;
 /// How many runs a group of a new pool may log.
 const LOG: u32 = 65536;
 
-/// The layout of a new pool.
-fn layout_for(alloc: Global, units: u32) -> Result<Layout, AllocError>
-    requires least { 64 ≤ units }
-    requires most { units ≤ MAX_UNITS }
-    ensures layout { IfOk result (λ layout. layout ≡ created_layout units) }
+/// The layout of a new pool of these vdevs.
+fn layout_for(alloc: Global, vdevs: &Vdevs) -> Result<Layout, AllocError>
+    requires { AreVdevs vdevs.now }
+    ensures layout { IfOk result (λ layout. layout ≡ created_layout vdevs.now) }
     ensures limits { IfOk result IsLayout }
 {
-    let row = VdevRow {
-        class: Class::Normal,
-        ashift: ASHIFT,
-        units,
-        metaslabs: 1,
-    };
+    let rows = Vec::from_slice(alloc, vdevs.as_slice())?;
     Ok(Layout {
         flush: FLUSH,
         log: LOG,
-        vdevs: Items::from_vec(vec![in alloc; row]?),
+        vdevs: Items::from_vec(rows),
     })
 }
 
@@ -79,12 +73,11 @@ fn announce<K: Sink>(out: &mut K) -> Status
 }
 
 /// Makes a pool, where the device has none, and says so.
-fn create<K: Sink, D: Disk>(alloc: Global, out: &mut K, disk: D, units: u32) -> (Status, D)
-    requires least { 64 ≤ units }
-    requires most { units ≤ MAX_UNITS }
-    ensures { CreateEnds units (K.state out.old) (K.state out.new) (D.state disk) (D.state result.1) (D.faults disk) (D.faults result.1) result.0 }
+fn create<K: Sink, D: Disk>(alloc: Global, out: &mut K, disk: D, vdevs: &Vdevs) -> (Status, D)
+    requires { AreVdevs vdevs.now }
+    ensures { CreateEnds vdevs.now (K.state out.old) (K.state out.new) (D.state disk) (D.state result.1) (D.faults disk) (D.faults result.1) result.0 }
 {
-    let Ok(layout) = layout_for(alloc, units) else {
+    let Ok(layout) = layout_for(alloc, vdevs) else {
         return (Status::Memory, disk);
     };
     let (disk, made) = meta_store::create(alloc, disk, &layout);
@@ -107,12 +100,12 @@ pub fn zms_still<K: Sink, D: Disk>(
 ) -> (Status, D)
     ensures usage { AsksNothing (map string_bytes words.now) → (result.0 ≡ Usage) × ((K.state out.new ≡ K.state out.old) × (result.1 ≡ meta)) }
     ensures run { (at : At) → Asks (map string_bytes words.now) (Run at) → (result.0 ≡ Usage) × ((K.state out.new ≡ K.state out.old) × (result.1 ≡ meta)) }
-    ensures create { (units : ℕ) → Asks (map string_bytes words.now) (Create units) → CreateEnds units (K.state out.old) (K.state out.new) (D.state meta) (D.state result.1) (D.faults meta) (D.faults result.1) result.0 }
+    ensures create { (vdevs : List VdevRow) → Asks (map string_bytes words.now) (Create vdevs) → CreateEnds vdevs (K.state out.old) (K.state out.new) (D.state meta) (D.state result.1) (D.faults meta) (D.faults result.1) result.0 }
     ensures report { (at : At) → Asks (map string_bytes words.now) (Report at) → ReportEnds at (K.state out.old) (K.state out.new) (D.state meta) (D.faults meta) (D.faults result.1) result.0 }
     ensures rests { (at : At) → Asks (map string_bytes words.now) (Report at) → Tells (D.state meta) → Untouched (D.state meta) (D.state result.1) }
 {
     match read_words(words) {
-        Some(Asked::Create { units }) => create(alloc, out, meta, units),
+        Some(Asked::Create { vdevs }) => create(alloc, out, meta, &vdevs),
         Some(Asked::Report { at }) => report(alloc, out, meta, at),
         Some(Asked::Run { .. }) => (Status::Usage, meta),
         None => (Status::Usage, meta),
@@ -145,7 +138,7 @@ where
     M: Meet,
     requires { length devices.items ≡ 16 }
     ensures run { (at : At) → Asks (map string_bytes words.now) (Run at) → RunEnds at (world (S.state input.old) (K.state out.old) (T.state trace.old) (D.state meta) (D.faults meta)) (world (S.state input.new) (K.state out.new) (T.state trace.new) (D.state result.meta) (D.faults result.meta)) result.status result.journals result.lists }
-    ensures create { (units : ℕ) → Asks (map string_bytes words.now) (Create units) → CreateEnds units (K.state out.old) (K.state out.new) (D.state meta) (D.state result.meta) (D.faults meta) (D.faults result.meta) result.status }
+    ensures create { (vdevs : List VdevRow) → Asks (map string_bytes words.now) (Create vdevs) → CreateEnds vdevs (K.state out.old) (K.state out.new) (D.state meta) (D.state result.meta) (D.faults meta) (D.faults result.meta) result.status }
     ensures report { (at : At) → Asks (map string_bytes words.now) (Report at) → ReportEnds at (K.state out.old) (K.state out.new) (D.state meta) (D.faults meta) (D.faults result.meta) result.status }
     ensures rests { (at : At) → Asks (map string_bytes words.now) (Report at) → Tells (D.state meta) → Untouched (D.state meta) (D.state result.meta) }
     ensures usage { AsksNothing (map string_bytes words.now) → (result.status ≡ Usage) × ((K.state out.new ≡ K.state out.old) × (result.meta ≡ meta)) }

@@ -1,20 +1,20 @@
 //! The words of the command line, read by hand: each form is what its words are (`specs/Words.antt`).
 
-ghost use Rattle.std.specs.Prelude.{◌≡◌, ℕ, ◌^◌, ◌<◌, ◌≤◌, List, [], ◌∷◌, ◌++◌, ◌↔◌, map, string_bytes, Some, IsTrue, IsSome, IfSome, IfNone};
+ghost use Rattle.std.specs.Prelude.{◌≡◌, ℕ, ◌^◌, ◌<◌, List, [], ◌∷◌, ◌++◌, ◌↔◌, map, string_bytes, Some, IsTrue, IsSome, IfSome, IfNone};
 ghost use Rattle.std.specs.List.{list_all};
-ghost use Rattle.zms_units.specs.Limits.{IsUnitCount};
-ghost use Rattle.zms_top.specs.Words.{is_pool_byte, Asks, AsksNothing, IsPoolName, AreOfPool, ArePoolAndGroup, group_word, spec_text};
+ghost use Rattle.zms_top.specs.Words.{is_pool_byte, Asks, AsksNothing, IsPoolName, AreOfPool, ArePoolAndGroup, group_word};
 ghost use Rattle.zms_top.specs.declared.words.Asked.{Asked};
 
-use cmd_text::fields::{is_digit, is_lowercase, number, numeral};
+use cmd_text::fields::{is_digit, is_lowercase, numeral};
 use meta_store::At;
-use zms_units::{Group, MAX_UNITS, MIN_UNITS};
+use vdev_text::{Vdevs, read_spec};
+use zms_units::Group;
 
 /// What the words of the command line ask for.
-#[derive(Clone, Copy, Debug, PartialEq, Eq)]
+#[derive(Debug, Drop)]
 pub enum Asked {
-    /// A new pool: one normal vdev of 4096-byte units, with one metaslab of so many units.
-    Create { units: u32 },
+    /// A new pool of these vdevs.
+    Create { vdevs: Vdevs },
     /// A run of a command file over the pool as it is at this group.
     Run { at: At },
     /// The report of the pool as it is at this group.
@@ -29,14 +29,6 @@ fn after<'a>(text: &'a [u8], head: &[u8]) -> Option<&'a [u8]>
     text.strip_prefix(head)
 }
 
-/// What stands before `tail`, where the text ends with it.
-fn before<'a>(text: &'a [u8], tail: &[u8]) -> Option<&'a [u8]>
-    ensures some { IfSome result (λ front. front.now ++ tail.now ≡ text.now) }
-    ensures none { IfNone result ((front : List ℕ) → front ++ tail.now ≡ text.now → ⊥) }
-{
-    text.strip_suffix(tail)
-}
-
 /// Is each byte one of a pool's name?
 fn are_pool_bytes(bytes: &[u8]) -> bool
     ensures { result ≡ list_all is_pool_byte bytes.now }
@@ -49,19 +41,6 @@ fn is_pool_name(name: &[u8]) -> bool
     ensures { IsTrue result ↔ IsPoolName name.now }
 {
     !name.is_empty() && name.len() <= 64 && are_pool_bytes(name)
-}
-
-/// The units of a vdev `normal:12:UNITS:1`, 64 to 131072 of them.
-fn units_of_spec(spec: &[u8]) -> Option<u32>
-    ensures some { IfSome result (λ units. (spec_text units ≡ spec.now) × IsUnitCount units) }
-    ensures none { IfNone result ((units : ℕ) → MIN_UNITS ≤ units → units ≤ MAX_UNITS → spec_text units ≡ spec.now → ⊥) }
-{
-    let units = number(before(after(spec, b"normal:12:")?, b":1")?)?;
-    if MIN_UNITS as u64 <= units && units <= MAX_UNITS as u64 {
-        Some(units as u32)
-    } else {
-        None
-    }
 }
 
 /// The end of the numbers of the command line, which have at most 19 digits.
@@ -114,8 +93,8 @@ fn read_three(command: &str, one: &[u8], two: &[u8]) -> Option<Asked>
     if command != "create" || !is_pool_name(one) {
         return None;
     }
-    let units = units_of_spec(two)?;
-    Some(Asked::Create { units })
+    let vdevs = read_spec(two)?;
+    Some(Asked::Create { vdevs })
 }
 
 /// What a command and one word behind it ask for.
@@ -135,9 +114,8 @@ fn read_two(command: &str, pool: &[u8]) -> Option<Asked>
     None
 }
 
-/// What the words of the command line ask for; none exactly where they are outside the grammar: `create POOL
-/// normal:12:UNITS:1`, or `run POOL` or `report POOL`, which may have one option `--group=G` in front of the pool or behind
-/// it.
+/// What the words of the command line ask for; none exactly where they are outside the grammar: `create POOL SPEC`, or `run
+/// POOL` or `report POOL`, which may have one option `--group=G` in front of the pool or behind it.
 pub fn read_words(words: &[String]) -> Option<Asked>
     ensures asks { IfSome result (λ asked. Asks (map string_bytes words.now) asked) }
     ensures nothing { IfNone result (AsksNothing (map string_bytes words.now)) }

@@ -28,7 +28,7 @@ returns-in-Ok-made g c =
     let is : c.create-disk.result.1 ≡ Ok tt = search rules in
     let of_made = subst (λ m. MakesPool c.in-Ok.layout start end (g.D.Disk.faults c.args.disk) (g.D.Disk.faults c.create-disk.result.0) m) is all in
     let of_layout = subst (λ l. MakesPool l start end (g.D.Disk.faults c.args.disk) (g.D.Disk.faults c.create-disk.result.0) (Ok tt)) c.in-Ok.ensures.layout of_made in
-    made_ends c.args.units _ _ _ _ _ _ _ of_layout c.announce.ensures
+    made_ends c.args.vdevs.now _ _ _ _ _ _ _ of_layout c.announce.ensures
 
 pub returns : goal.returns
 returns g c =
@@ -52,4 +52,4 @@ returns g c =
     let is : c.create-disk.result.1 ≡ Err c.in-Err.fault = c.in-Err.is in
     let of_made = subst (λ m. MakesPool c.in-Ok.layout start end (g.D.Disk.faults c.args.disk) (g.D.Disk.faults c.create-disk.result.0) m) is all in
     let of_layout = subst (λ l. MakesPool l start end (g.D.Disk.faults c.args.disk) (g.D.Disk.faults c.create-disk.result.0) (Err c.in-Err.fault)) c.in-Ok.ensures.layout of_made in
-    refused_ends c.args.units _ _ _ _ _ _ c.in-Err.fault c.refusal.result c.refusal.ensures of_layout refl
+    refused_ends c.args.vdevs.now _ _ _ _ _ _ c.in-Err.fault c.refusal.result c.refusal.ensures of_layout refl
