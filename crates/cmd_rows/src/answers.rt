@@ -4,7 +4,7 @@ use cmd_text::{Command, Script, TextFault, What};
 use std::alloc::{AllocError, Global};
 use zms_units::Class;
 
-fn class_word(class: Class) -> &'static str {
+pub fn class_word(class: Class) -> &'static str {
     match class {
         Class::Normal => "normal",
         Class::Log => "log",

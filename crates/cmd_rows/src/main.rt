@@ -1,13 +1,17 @@
 //! Command files, each with what is wanted of it, out of the file `rows`: prints how many there are, how many of them are
 //! good, and how many are not read as is wanted. `tools/make-command-rows` makes the file, and says how it is laid out.
+//! And texts by which vdevs are asked for, out of the table `vdevs.txt`, made by hand.
 #![tactic(auto)]
 
 mod answers;
 mod rows;
+mod vdevs;
 
 use cmd_text::read_commands;
+use row_tables::call_rows;
 use std::alloc::Global;
 use std::{fs, io};
+use vdevs::VdevCalls;
 
 /// How many rows there were.
 #[derive(Drop)]
@@ -55,5 +59,6 @@ fn main(rt: HostRuntime) -> io::Result<()> {
     println!(rt;
         "{rows} rows, {good} good, {other} other than wanted, {} bytes left",
         rest.len()
-    )
+    )?;
+    call_rows(&rt, &mut VdevCalls, "vdevs.txt")
 }
