@@ -1,0 +1,3 @@
+pub mod Alike
+pub mod Weighing
+pub mod Bases

@@ -1,0 +1,4 @@
+pub mod Bases
+pub mod Seats
+pub mod Joining
+pub mod Closing
