@@ -1,0 +1,11 @@
+pub mod Grounds
+pub mod Keeping
+pub mod Numbering
+pub mod Backing
+pub mod Joinings
+pub mod Replying
+pub mod Seating
+pub mod Endings
+pub mod Taking
+pub mod Crossing
+pub mod LaneRuns
