@@ -212,6 +212,8 @@ fn unbegun<D: Disk + Send>(alloc: Global, store: MetaStore<D>) -> Lanes<D>
 ///
 /// Want of memory for what a run takes beside its lanes leaves the store as it was, and no journals. Want of memory of a lane, or
 /// of the threads, leaves journals and no replies.
+///
+/// Costs what the commands cost, one look of each lane at each command, and what making and closing each metaslab costs.
 pub fn run_lanes<D: Disk + Send, M: Meet + Sync, W: Threads + Wait + Sync>(
     rt: &W,
     alloc: Global,

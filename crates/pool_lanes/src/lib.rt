@@ -4,7 +4,8 @@
 //! To the layer above: `run_lanes` hands back the journals of the closed pool, the device, and one reply a command. Whatever the
 //! lanes' timing, each journal is legal, holds each lane's steps once and in order, and backs its replies line by line; and
 //! wherever the device was stopped, each retained group opens and finds what the closed journals say that it holds
-//! (`specs/Lanes.antt`). After want of memory the same holds but for the replies, of which there are none.
+//! (`specs/Lanes.antt`). After want of memory there are no replies, and so nothing is said of a lane's steps; the journals are
+//! legal all the same, and the device opens as they say.
 #![tactic(auto)]
 
 mod lanes;
